@@ -1,0 +1,14 @@
+pub mod AllBelow
+pub mod Below
+pub mod Bytes
+pub mod Examples
+pub mod Fuel
+pub mod Judge
+pub mod Length
+pub mod PartTables
+pub mod ReadLoop
+pub mod ReadSound
+pub mod RoundTrip
+pub mod SoundTests
+pub mod Stretches
+pub mod Written

@@ -1,0 +1,45 @@
+-- What an accepted writing tells: the graph passed the tests of soundness, and its bytes stand at the front of the buffer.
+use mathlib.Core.Path.{_≡_, refl}
+use mathlib.Core.Bool.{Bool, true, false, cond}
+use mathlib.Core.List.{List}
+use Prim.Native.Nat.{ℕ}
+use lib.Dec.{leb}
+use lib.ListN.{length, take, drop}
+use lib.Seq.{take-at}
+use Rattle.graph.specs.Graph.{Graph}
+use Rattle.graph.specs.Answers.{Answer, passed, accepted, refused}
+use Rattle.graph.specs.Soundness.{tablesFit, labelsSound, edgesSound, soundness}
+use Rattle.graph.specs.Writing.{Writing, graphBytes, overwrite, fill, onSound, writing}
+
+-- An accepted writing is of a graph that passed.
+pub written-passed : (g : Graph) (buffer : List ℕ) (k : ℕ) → writing g buffer .answer ≡ accepted k → soundness g ≡ passed
+unfolding writing soundness
+written-passed g buffer k = go (tablesFit (g .order) (g .labels) (g .edges)) (labelsSound (g .order) (g .labels)) (edgesSound (g .order) (g .edges))
+  where
+    found : Bool → Bool → Bool → Answer
+    found t l e = cond t (cond l (cond e passed (refused 12)) (refused 11)) (refused 10)
+
+    go : (t l e : Bool) → onSound (found t l e) (fill (graphBytes g) buffer) buffer .answer ≡ accepted k → found t l e ≡ passed
+    go true true true a = refl
+    go true true false a = cc
+    go true false e a = cc
+    go false l e a = cc
+
+-- Filling that is accepted with k leaves the bytes in the first k of the buffer.
+filled-bytes : (bytes buffer : List ℕ) (k : ℕ) → fill bytes buffer .answer ≡ accepted k → take k (fill bytes buffer .buffer) ≡ bytes
+filled-bytes bytes buffer k = go (leb (length bytes) (length buffer))
+  where
+    fits : Bool → Writing
+    fits t = cond t (record { answer = accepted (length bytes); buffer = overwrite bytes buffer }) (record { answer = refused 13; buffer = buffer })
+
+    go : (t : Bool) → fits t .answer ≡ accepted k → take k (fits t .buffer) ≡ bytes
+    go true a = take-at bytes (drop (length bytes) buffer) k (cc)
+    go false a = cc
+
+-- An accepted writing of k bytes leaves the graph's bytes in the first k of the buffer.
+pub written-bytes : (g : Graph) (buffer : List ℕ) (k : ℕ) → writing g buffer .answer ≡ accepted k
+    → take k (writing g buffer .buffer) ≡ graphBytes g
+unfolding writing
+written-bytes g buffer k a =
+    let w : writing g buffer ≡ fill (graphBytes g) buffer = rw (written-passed g buffer k a) in
+    rw w (filled-bytes (graphBytes g) buffer k (rw w at a))

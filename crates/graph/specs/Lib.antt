@@ -1,0 +1,7 @@
+pub mod Graph
+pub mod Answers
+pub mod Below
+pub mod Soundness
+pub mod Commands
+pub mod Reading
+pub mod Writing

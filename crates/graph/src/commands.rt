@@ -1,0 +1,124 @@
+// One command of graph bytes: decoded from the front of the rest of the bytes, judged against the graph so far, and added to its tables.
+
+use super::Fault;
+ghost use mathlib.Core.Path.{_≡_};
+ghost use mathlib.Core.List.{List};
+ghost use Prim.Native.Nat.{ℕ, _≤_, _<_};
+ghost use lib.ListN.{length};
+ghost use Rattle.graph.specs.Graph.{graph};
+ghost use Rattle.graph.specs.Commands.{decode as decoded, width as widthOf};
+ghost use Rattle.graph.specs.Reading.{judge, judged, after};
+
+pub enum Command {
+    Vertex(u8),
+    Edge(u8, u8, u8),
+    End,
+    Truncated,
+    Unknown,
+}
+
+// What a command did: the order of the graph it grew, the end, or a fault.
+pub enum Step {
+    Grown(usize),
+    Ended,
+    Faulty(Fault),
+}
+
+// The command at the front of `rest`.
+pub fn decode(rest: &[u8]) -> Command
+    ensures { λ r. ⌜ r ≡ decoded (now (rest .entry)) ⌝ }
+{
+    if rest.len() == 0 {
+        return Command::Truncated;
+    }
+    let first = rest[0];
+    if first == 0 {
+        return Command::End;
+    }
+    if first == 1 {
+        if rest.len() < 2 {
+            return Command::Truncated;
+        }
+        return Command::Vertex(rest[1]);
+    }
+    if first == 2 {
+        if rest.len() < 4 {
+            return Command::Truncated;
+        }
+        return Command::Edge(rest[1], rest[2], rest[3]);
+    }
+    Command::Unknown
+}
+
+// How many bytes a whole command takes.
+pub fn width(command: Command) -> usize
+    ensures { λ r. ⌜ r ≡ widthOf command ⌝ }
+{
+    match command {
+        Command::Vertex(_) => 2,
+        Command::Edge(_, _, _) => 4,
+        Command::End => 1,
+        Command::Truncated => 0,
+        Command::Unknown => 0,
+    }
+}
+
+// The next vertex, with its label.
+pub fn add_vertex(label: u8, order: usize, labels: &mut [u8]) -> Step
+    requires { ⌜ (length (now labels) ≡ 64) × (order ≤ 64) ⌝ }
+    ensures judged { λ r. ⌜ ((edges : List ℕ) → judged r (now (labels .exit)) edges ≡ judge (graph order (now (labels .entry)) edges) (Command.Vertex label)) ⌝ }
+    ensures after { λ r. ⌜ ((edges : List ℕ) → now (labels .exit) ≡ (after (graph order (now (labels .entry)) edges) (judge (graph order (now (labels .entry)) edges) (Command.Vertex label))) .labels) ⌝ }
+{
+    if label == 0 {
+        return Step::Faulty(Fault::ZeroLabel);
+    }
+    if 64 <= order {
+        return Step::Faulty(Fault::TooManyVertices);
+    }
+    labels[order] = label;
+    Step::Grown(order + 1)
+}
+
+// An edge between two vertices, entered both ways.
+pub fn add_edge(a: u8, b: u8, label: u8, order: usize, edges: &mut [u8]) -> Step
+    requires { ⌜ (length (now edges) ≡ 4096) × (order ≤ 64) ⌝ }
+    ensures judged { λ r. ⌜ ((labels : List ℕ) → judged r labels (now (edges .exit)) ≡ judge (graph order labels (now (edges .entry))) (Command.Edge a b label)) ⌝ }
+    ensures after { λ r. ⌜ ((labels : List ℕ) → now (edges .exit) ≡ (after (graph order labels (now (edges .entry))) (judge (graph order labels (now (edges .entry))) (Command.Edge a b label))) .edges) ⌝ }
+{
+    let from = a as usize;
+    let to = b as usize;
+    if order <= from {
+        return Step::Faulty(Fault::MissingVertex);
+    }
+    if order <= to {
+        return Step::Faulty(Fault::MissingVertex);
+    }
+    if from == to {
+        return Step::Faulty(Fault::SelfEdge);
+    }
+    if label == 0 {
+        return Step::Faulty(Fault::NullEdge);
+    }
+    if edges[64 * from + to] != 0 {
+        return Step::Faulty(Fault::RepeatedEdge);
+    }
+    edges[64 * from + to] = label;
+    edges[64 * to + from] = label;
+    Step::Grown(order)
+}
+
+// One command, judged against the graph so far and added to its tables if it stands.
+pub fn apply(command: Command, order: usize, labels: &mut [u8], edges: &mut [u8]) -> Step
+    requires { ⌜ (length (now labels) ≡ 64) × (length (now edges) ≡ 4096) × (order ≤ 64) ⌝ }
+    ensures judged { λ r. ⌜ judged r (now (labels .exit)) (now (edges .exit)) ≡ judge (graph order (now (labels .entry)) (now (edges .entry))) command ⌝ }
+    ensures labels { λ r. ⌜ now (labels .exit) ≡ (after (graph order (now (labels .entry)) (now (edges .entry))) (judge (graph order (now (labels .entry)) (now (edges .entry))) command)) .labels ⌝ }
+    ensures edges { λ r. ⌜ now (edges .exit) ≡ (after (graph order (now (labels .entry)) (now (edges .entry))) (judge (graph order (now (labels .entry)) (now (edges .entry))) command)) .edges ⌝ }
+{
+    match command {
+        Command::Vertex(label) => add_vertex(label, order, labels),
+        Command::Edge(a, b, label) => add_edge(a, b, label, order, edges),
+        Command::End => Step::Ended,
+        Command::Truncated => Step::Faulty(Fault::Truncated),
+        Command::Unknown => Step::Faulty(Fault::UnknownCommand),
+    }
+}

@@ -1,0 +1,90 @@
+// Graphs in two lent tables: the test of soundness, and graph bytes read and written.
+// A graph is a number of vertices, 64 vertex labels and 4,096 edge labels, the label of the edge of a and b at 64 * a + b.
+
+mod commands;
+mod reader;
+mod table_tests;
+mod tables;
+
+ghost use mathlib.Core.Path.{_≡_};
+ghost use Rattle.graph.specs.Graph.{graph};
+ghost use Rattle.graph.specs.Soundness.{soundness};
+ghost use Rattle.graph.specs.Answers.{soundnessAnswer};
+ghost use Rattle.graph.specs.Reading.{readingOf, reading};
+
+// Why lent tables hold no sound graph.
+pub enum Flaw {
+    Tables,
+    Labels,
+    Edges,
+}
+
+// The answer of `check_graph`.
+pub enum Soundness {
+    Sound,
+    Flawed(Flaw),
+}
+
+// Why a command of graph bytes cannot stand where it does.
+pub enum Fault {
+    Truncated,
+    UnknownCommand,
+    ZeroLabel,
+    TooManyVertices,
+    MissingVertex,
+    SelfEdge,
+    NullEdge,
+    RepeatedEdge,
+    TrailingBytes,
+}
+
+// The answer of `read_graph`: the graph's order, or a refusal, with the place of the fault.
+pub enum ReadAnswer {
+    Order(usize),
+    Tables,
+    Refused(Fault, usize),
+}
+
+// The answer of `write_graph`: how many bytes were written, or a refusal.
+pub enum WriteAnswer {
+    Written(usize),
+    Flawed(Flaw),
+    TooShort,
+}
+
+// Whether the tables hold a sound graph of that order.
+pub fn check_graph(order: usize, labels: &[u8], edges: &[u8]) -> Soundness
+    ensures { λ r. ⌜ soundnessAnswer r ≡ soundness (graph order (now (labels .entry)) (now (edges .entry))) ⌝ }
+{
+    if labels.len() != 64 {
+        return Soundness::Flawed(Flaw::Tables);
+    }
+    if edges.len() != 4096 {
+        return Soundness::Flawed(Flaw::Tables);
+    }
+    if order > 64 {
+        return Soundness::Flawed(Flaw::Tables);
+    }
+    if !table_tests::labels_sound(order, labels) {
+        return Soundness::Flawed(Flaw::Labels);
+    }
+    if !table_tests::edges_sound(order, edges) {
+        return Soundness::Flawed(Flaw::Edges);
+    }
+    Soundness::Sound
+}
+
+// Reads graph bytes into the two tables.
+pub fn read_graph(bytes: &[u8], labels: &mut [u8], edges: &mut [u8]) -> ReadAnswer
+    ensures { λ r. ⌜ readingOf r (now (labels .exit)) (now (edges .exit)) ≡ reading (now (labels .entry)) (now (edges .entry)) (now (bytes .entry)) ⌝ }
+{
+    if labels.len() != 64 {
+        return ReadAnswer::Tables;
+    }
+    if edges.len() != 4096 {
+        return ReadAnswer::Tables;
+    }
+    tables::clear(labels);
+    tables::clear(edges);
+    reader::read_commands(bytes, labels, edges)
+}
