@@ -1,15 +1,30 @@
 -- Laws of a sum and of a run of bytes over all numbers below a bound.
 use mathlib.Core.Path.{_≡_, refl, sym, ap₂, _∙_}
 use mathlib.Core.Bool.{Bool, true, false, cond, _&&_}
-use mathlib.Core.List.{List}
+use mathlib.Core.List.{List, _++_}
 use Prim.Native.Nat.{ℕ, zero, suc, _+_, _*_, _-_, _≤_, _<_}
 use native.Mathlib.Nat.{le-refl, mul-zero, mul-suc, mul-add}
+use native.Mathlib.Numerals.{add-one}
 use native.Mathlib.Decide.{le-ind}
 use native.Mathlib.Omega.{arith}
 use lib.Dec.{ltb}
 use lib.ListN.{length, length-append}
 use borrow.Author.Tests.{ltb-true}
 use Rattle.graph.specs.Below.{sumBelow, runBelow}
+
+-- A sum over one number more has that number's term added.
+pub sumBelow-add-one : (n : ℕ) (f : ℕ → ℕ) → sumBelow (n + 1) f ≡ sumBelow n f + f n
+unfolding sumBelow
+sumBelow-add-one n f = rw add-one
+
+-- A run over one number more has that number's part at its end.
+pub runBelow-add-one : (n : ℕ) (f : ℕ → List ℕ) → runBelow (n + 1) f ≡ runBelow n f ++ f n
+unfolding runBelow
+runBelow-add-one n f = rw add-one
+
+-- It is longer by that part.
+pub length-runBelow-add-one : (n : ℕ) (f : ℕ → List ℕ) → length (runBelow (n + 1) f) ≡ length (runBelow n f) + length (f n)
+length-runBelow-add-one n f = rw (runBelow-add-one, length-append)
 
 -- A run is as long as its parts together.
 pub length-runBelow : (n : ℕ) (f : ℕ → List ℕ) → length (runBelow n f) ≡ sumBelow n (λ k. length (f k))

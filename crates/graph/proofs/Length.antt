@@ -1,38 +1,26 @@
 -- How many bytes a graph is written in: 2n + 4 × links + 1, at most 8,193 for up to 64 vertices.
 use mathlib.Core.Path.{_≡_, refl, _∙_}
-use mathlib.Core.Bool.{Bool, true, false, cond, not, _&&_}
+use mathlib.Core.Bool.{Bool, true, false, cond, not}
 use mathlib.Core.List.{[], _∷_}
 use Prim.Native.Nat.{ℕ, suc, _+_, _*_, _-_, _≤_, _<_}
 use native.Mathlib.Omega.{arith}
-use lib.Dec.{ltb, eqb}
+use lib.Dec.{eqb}
 use lib.ListN.{length, length-append}
 use Rattle.graph.specs.Graph.{Graph, edge}
 use Rattle.graph.specs.Below.{sumBelow, runBelow}
-use Rattle.graph.specs.Writing.{vertexBytes, edgeBytes, rowBytes, graphBytes, links}
+use Rattle.graph.specs.Writing.{vertexBytes, listed, edgeBytes, rowBytes, graphBytes, rowLinks, links}
 use Rattle.graph.proofs.Below.{length-runBelow, length-runBelow-part, sumBelow-le, sumBelow-more, sumBelow-same, sumBelow-mul, count-above}
 
--- the number of edges written at a and b: 1 where a < b are linked
-abbrev pub linked : Graph → ℕ → ℕ → ℕ
-linked g a b = cond (ltb a b && not (eqb (edge g a b) 0)) 1 0
-
 -- An edge takes 4 bytes where it is written, and none elsewhere.
-pub length-edgeBytes : (g : Graph) (a b : ℕ) → length (edgeBytes g a b) ≡ 4 * linked g a b
-length-edgeBytes g a b = go (ltb a b && not (eqb (edge g a b) 0))
+pub length-edgeBytes : (g : Graph) (a b : ℕ) → length (edgeBytes g a b) ≡ 4 * cond (listed g a b) 1 0
+length-edgeBytes g a b = go (listed g a b)
   where
     go : (t : Bool) → length (cond t (2 ∷ a ∷ b ∷ edge g a b ∷ []) []) ≡ 4 * cond t 1 0
     go true = refl
     go false = refl
 
--- An edge takes at most 4 bytes.
-pub length-edgeBytes-max : (g : Graph) (a b : ℕ) → length (edgeBytes g a b) ≤ 4
-length-edgeBytes-max g a b = go (ltb a b && not (eqb (edge g a b) 0))
-  where
-    go : (t : Bool) → length (cond t (2 ∷ a ∷ b ∷ edge g a b ∷ []) []) ≤ 4
-    go true = omega arith
-    go false = omega arith
-
 -- A row takes 4 bytes for each of its edges.
-pub length-rowBytes : (g : Graph) (a : ℕ) → length (rowBytes g a) ≡ 4 * sumBelow (g .order) (linked g a)
+pub length-rowBytes : (g : Graph) (a : ℕ) → length (rowBytes g a) ≡ 4 * rowLinks g a
 unfolding rowBytes
 length-rowBytes g a = simp (length-runBelow, length-edgeBytes, sumBelow-mul)
 
@@ -50,13 +38,15 @@ pub length-graphBytes : (g : Graph) → length (graphBytes g) ≡ 2 * g .order +
 unfolding graphBytes
 length-graphBytes g = simp (length-append, length-vertices, length-rows)
 
+-- Row a has at most as many edges as there are vertices after a.
+pub rowLinks-max : (g : Graph) (a : ℕ) → rowLinks g a ≤ g .order - suc a
+rowLinks-max g a = count-above (g .order) a (λ b. not (eqb (edge g a b) 0))
+
 -- Up to 64 vertices have at most 2,016 links, one for each pair a < b.
 pub links-max : (g : Graph) → g .order ≤ 64 → links g ≤ 2016
 unfolding links sumBelow
 links-max g h =
-    let row : (a : ℕ) → a < g .order → sumBelow (g .order) (linked g a) ≤ 64 - suc a =
-    λ a l. omega (arith, count-above (g .order) a (λ b. not (eqb (edge g a b) 0))) in
-    let rows = sumBelow-le (g .order) (λ a. sumBelow (g .order) (linked g a)) (λ a. 64 - suc a) row in
+    let rows = sumBelow-le (g .order) (rowLinks g) (λ a. 64 - suc a) (λ a l. omega (arith, rowLinks-max g a)) in
     let more = sumBelow-more (g .order) 64 (λ a. 64 - suc a) h in
     let total : sumBelow 64 (λ a. 64 - suc a) ≡ 2016 = refl in
     omega arith
@@ -64,13 +54,3 @@ links-max g h =
 -- The written bytes of up to 64 vertices number at most 8,193.
 pub length-max : (g : Graph) → g .order ≤ 64 → length (graphBytes g) ≤ 8193
 length-max g h = omega (arith, length-graphBytes g, links-max g h)
-
--- Before the edge of a and b is written, there is room for it and the end in what is left of the graph's bytes.
-pub room-for-edge : (g : Graph) (a b : ℕ) → a < g .order → b < g .order
-    → 2 * g .order + length (runBelow a (rowBytes g)) + length (runBelow b (edgeBytes g a)) + length (edgeBytes g a b) + 1
-    ≤ length (graphBytes g)
-unfolding rowBytes
-room-for-edge g a b ha hb =
-    let rows = length-runBelow-part a (g .order) (rowBytes g) ha in
-    let row = length-runBelow-part b (g .order) (edgeBytes g a) hb in
-    omega (arith, length-graphBytes g, length-rows g)

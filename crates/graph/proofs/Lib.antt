@@ -10,5 +10,8 @@ pub mod ReadLoop
 pub mod ReadSound
 pub mod RoundTrip
 pub mod SoundTests
+pub mod Stores
 pub mod Stretches
+pub mod TablesFit
+pub mod WriteParts
 pub mod Written

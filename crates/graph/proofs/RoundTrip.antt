@@ -18,7 +18,8 @@ use Rattle.graph.specs.Writing.{vertexBytes, edgeBytes, rowBytes, graphB
 use Rattle.graph.proofs.Fuel.{readAt}
 use Rattle.graph.proofs.PartTables.{partTable, part-new, part-none, part-all, part-same, part-set, part-set-both}
 use Rattle.graph.proofs.Stretches.{Makes, makes-nothing, makes-both, makes-run, makes-vertex, makes-edge, read-end}
-use Rattle.graph.proofs.Written.{written-bytes}
+use Rattle.graph.proofs.Written.{written-passed, written-bytes}
+use Rattle.graph.proofs.SoundTests.{passes-sound}
 
 -- the place of the edge whose label stands at i, its lower vertex first: the writer gives the edges by rising rank
 abbrev edgeRank : ℕ → ℕ
@@ -168,8 +169,9 @@ round-trip g s labels edges l e =
     simp (eq-eqb (length labels) 64 l, eq-eqb (length edges) 4096 e)
     (makes-both (vertices-made g s) (edges-made g s) .onward 0 (0 ∷ []) ∙ read-end g _)
 
--- For every sound graph, reading the bytes that a writer has written into a buffer gives that same graph.
-pub written-read : (g : Graph) → Sound g → (buffer : List ℕ) (k : ℕ) → writing g buffer .answer ≡ accepted k
+-- Reading the bytes that a writer has written into a buffer gives the graph that was written.
+pub written-read : (g : Graph) (buffer : List ℕ) (k : ℕ) → writing g buffer .answer ≡ accepted k
     → (labels edges : List ℕ) → length labels ≡ 64 → length edges ≡ 4096
     → reading labels edges (take k (writing g buffer .buffer)) ≡ record { answer = accepted (g .order); labels = g .labels; edges = g .edges }
-written-read g s buffer k a labels edges l e = rw (written-bytes g buffer k a) (round-trip g s labels edges l e)
+written-read g buffer k a labels edges l e =
+    rw (written-bytes g buffer k a) (round-trip g (passes-sound g (written-passed g buffer k a)) labels edges l e)

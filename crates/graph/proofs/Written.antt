@@ -1,4 +1,5 @@
--- What an accepted writing tells: the graph passed the tests of soundness, and its bytes stand at the front of the buffer.
+-- What the tests of soundness tell of a writing, and what an accepted writing tells: the graph passed them, and its bytes stand at the front of
+-- the buffer.
 use mathlib.Core.Path.{_≡_, refl}
 use mathlib.Core.Bool.{Bool, true, false, cond}
 use mathlib.Core.List.{List}
@@ -10,6 +11,17 @@ use Rattle.graph.specs.Graph.{Graph}
 use Rattle.graph.specs.Answers.{Answer, passed, accepted, refused}
 use Rattle.graph.specs.Soundness.{tablesFit, labelsSound, edgesSound, soundness}
 use Rattle.graph.specs.Writing.{Writing, graphBytes, overwrite, fill, onSound, writing}
+
+-- A graph that passed is filled in where it fits.
+pub passed-writing : (g : Graph) (buffer : List ℕ) → soundness g ≡ passed → writing g buffer ≡ fill (graphBytes g) buffer
+unfolding writing
+passed-writing g buffer e = rw e
+
+-- A graph that did not pass is refused by the same number, and the buffer stays as it was.
+pub refused-writing : (g : Graph) (buffer : List ℕ) (number : ℕ) → soundness g ≡ refused number
+    → writing g buffer ≡ record { answer = refused number; buffer = buffer }
+unfolding writing
+refused-writing g buffer number e = rw e
 
 -- An accepted writing is of a graph that passed.
 pub written-passed : (g : Graph) (buffer : List ℕ) (k : ℕ) → writing g buffer .answer ≡ accepted k → soundness g ≡ passed
@@ -39,7 +51,6 @@ filled-bytes bytes buffer k = go (leb (length bytes) (length buffer))
 -- An accepted writing of k bytes leaves the graph's bytes in the first k of the buffer.
 pub written-bytes : (g : Graph) (buffer : List ℕ) (k : ℕ) → writing g buffer .answer ≡ accepted k
     → take k (writing g buffer .buffer) ≡ graphBytes g
-unfolding writing
 written-bytes g buffer k a =
-    let w : writing g buffer ≡ fill (graphBytes g) buffer = rw (written-passed g buffer k a) in
+    let w = passed-writing g buffer (written-passed g buffer k a) in
     rw w (filled-bytes (graphBytes g) buffer k (rw w at a))

@@ -5,12 +5,14 @@ mod commands;
 mod reader;
 mod table_tests;
 mod tables;
+mod writer;
 
 ghost use mathlib.Core.Path.{_≡_};
 ghost use Rattle.graph.specs.Graph.{graph};
-ghost use Rattle.graph.specs.Soundness.{soundness};
+ghost use Rattle.graph.specs.Soundness.{tablesFit, soundness};
 ghost use Rattle.graph.specs.Answers.{soundnessAnswer};
 ghost use Rattle.graph.specs.Reading.{readingOf, reading};
+ghost use Rattle.graph.specs.Writing.{writingOf, writing};
 
 // Why lent tables hold no sound graph.
 pub enum Flaw {
@@ -52,17 +54,24 @@ pub enum WriteAnswer {
     TooShort,
 }
 
+// Whether the tables have 64 and 4,096 bytes, and the order is at most 64.
+pub fn tables_fit(order: usize, labels: &[u8], edges: &[u8]) -> bool
+    ensures { λ r. ⌜ r ≡ tablesFit order (now (labels .entry)) (now (edges .entry)) ⌝ }
+{
+    if labels.len() != 64 {
+        return false;
+    }
+    if edges.len() != 4096 {
+        return false;
+    }
+    order <= 64
+}
+
 // Whether the tables hold a sound graph of that order.
 pub fn check_graph(order: usize, labels: &[u8], edges: &[u8]) -> Soundness
     ensures { λ r. ⌜ soundnessAnswer r ≡ soundness (graph order (now (labels .entry)) (now (edges .entry))) ⌝ }
 {
-    if labels.len() != 64 {
-        return Soundness::Flawed(Flaw::Tables);
-    }
-    if edges.len() != 4096 {
-        return Soundness::Flawed(Flaw::Tables);
-    }
-    if order > 64 {
+    if !tables_fit(order, labels, edges) {
         return Soundness::Flawed(Flaw::Tables);
     }
     if !table_tests::labels_sound(order, labels) {
@@ -87,4 +96,14 @@ pub fn read_graph(bytes: &[u8], labels: &mut [u8], edges: &mut [u8]) -> ReadAnsw
     tables::clear(labels);
     tables::clear(edges);
     reader::read_commands(bytes, labels, edges)
+}
+
+// Writes a sound graph's bytes to the front of `out`.
+pub fn write_graph(order: usize, labels: &[u8], edges: &[u8], out: &mut [u8]) -> WriteAnswer
+    ensures { λ r. ⌜ writingOf r (now (out .exit)) ≡ writing (graph order (now (labels .entry)) (now (edges .entry))) (now (out .entry)) ⌝ }
+{
+    match check_graph(order, labels, edges) {
+        Soundness::Flawed(flaw) => WriteAnswer::Flawed(flaw),
+        Soundness::Sound => writer::write_sound(order, labels, edges, out),
+    }
 }

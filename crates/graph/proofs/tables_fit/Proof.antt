@@ -1,0 +1,18 @@
+-- `graph::tables_fit` meets its contract: at each return the tests that led there say what `tablesFit` computes to.
+-- Assumes nothing.
+use borrow.Author.Needs.{needs}
+use borrow.Author.Tests.{eq-eqb, ne-eqb}
+use Rattle.graph.proofs.tables_fit.Statement.{statement}
+use Rattle.graph.proofs.tables_fit.Tie as tie
+
+returns : tie.Need-returns
+returns c = simp (ne-eqb _ _ (c .if1 .taken))
+
+returns-2 : tie.Need-returns-2
+returns-2 c = simp (eq-eqb _ _ (c .before .if1 .left), ne-eqb _ _ (c .if2 .taken))
+
+returns-3 : tie.Need-returns-3
+returns-3 c = simp (eq-eqb _ _ (c .before .if1 .left), eq-eqb _ _ (c .if2 .left))
+
+pub tables-fit-spec : {M : Type 1} → statement M
+tables-fit-spec = tie.close (tie.spec returns returns-2 returns-3)
