@@ -1,0 +1,318 @@
+// Runs the reader, the writer and the soundness test on vectors derived by hand from document 01, and prints what they answer.
+
+use graph::Fault;
+use graph::Flaw;
+use graph::ReadAnswer;
+use graph::Soundness;
+use graph::WriteAnswer;
+use libc::STDOUT_FILENO;
+ghost use mathlib.Core.Path.{_≡_};
+ghost use Prim.Native.Nat.{_≤_};
+ghost use lib.ListN.{length};
+
+fn say(text: &[u8]) {
+    io::write_all(STDOUT_FILENO, text);
+}
+
+fn say_number(n: usize) {
+    io::print_decimal(STDOUT_FILENO, n as u64);
+}
+
+// 01's number of a fault.
+fn fault_number(fault: Fault) -> usize {
+    match fault {
+        Fault::Truncated => 1,
+        Fault::UnknownCommand => 2,
+        Fault::ZeroLabel => 3,
+        Fault::TooManyVertices => 4,
+        Fault::MissingVertex => 5,
+        Fault::SelfEdge => 6,
+        Fault::NullEdge => 7,
+        Fault::RepeatedEdge => 8,
+        Fault::TrailingBytes => 9,
+    }
+}
+
+fn flaw_number(flaw: Flaw) -> usize {
+    match flaw {
+        Flaw::Tables => 10,
+        Flaw::Labels => 11,
+        Flaw::Edges => 12,
+    }
+}
+
+// How many bytes are not 0.
+fn used(table: &[u8]) -> usize
+    ensures { λ r. ⌜ r ≤ length (now (table .entry)) ⌝ }
+{
+    let mut count = 0;
+    let mut i = 0;
+    while i < table.len() {
+        if table[i] != 0 {
+            count += 1;
+        }
+        i += 1;
+    }
+    count
+}
+
+// Reads into tables that hold 9 everywhere. Prints the order, the edge entries and the bytes that the writer gives back; or the number, the
+// place, and how many bytes of each table are left that are not 0.
+fn read_into(name: &[u8], bytes: &[u8], labels: &mut [u8], edges: &mut [u8]) {
+    let mut out = [0u8; 8193];
+    say(name);
+    match graph::read_graph(bytes, labels, edges) {
+        ReadAnswer::Order(order) => {
+            say(b": order ");
+            say_number(order);
+            say(b", labels ");
+            say_number(used(labels));
+            say(b", edge entries ");
+            say_number(used(edges));
+            write_into(b", back", order, labels, edges, &mut out);
+        }
+        ReadAnswer::Tables => {
+            say(b": 10, left ");
+            say_number(used(labels));
+            say(b" ");
+            say_number(used(edges));
+            say(b"\n");
+        }
+        ReadAnswer::Refused(fault, at) => {
+            say(b": ");
+            say_number(fault_number(fault));
+            say(b" at ");
+            say_number(at);
+            say(b", left ");
+            say_number(used(labels));
+            say(b" ");
+            say_number(used(edges));
+            say(b"\n");
+        }
+    }
+}
+
+fn read(name: &[u8], bytes: &[u8]) {
+    let mut labels = [9u8; 64];
+    let mut edges = [9u8; 4096];
+    read_into(name, bytes, &mut labels, &mut edges);
+}
+
+// Writes, and prints the count or the number, and how many bytes of the buffer are not 0 then.
+fn write_into(name: &[u8], order: usize, labels: &[u8], edges: &[u8], out: &mut [u8]) {
+    say(name);
+    match graph::write_graph(order, labels, edges, out) {
+        WriteAnswer::Written(count) => {
+            say(b": bytes ");
+            say_number(count);
+        }
+        WriteAnswer::Flawed(flaw) => {
+            say(b": ");
+            say_number(flaw_number(flaw));
+        }
+        WriteAnswer::TooShort => {
+            say(b": 13");
+        }
+    }
+    say(b", used ");
+    say_number(used(out));
+    say(b"\n");
+}
+
+fn check(name: &[u8], order: usize, labels: &[u8], edges: &[u8]) {
+    say(name);
+    match graph::check_graph(order, labels, edges) {
+        Soundness::Sound => {
+            say(b": sound\n");
+        }
+        Soundness::Flawed(flaw) => {
+            say(b": ");
+            say_number(flaw_number(flaw));
+            say(b"\n");
+        }
+    }
+}
+
+// The commands of n vertices with label 7, and 0 after them.
+fn vertices(n: usize) -> [u8; 131]
+    requires { ⌜ n ≤ 65 ⌝ }
+    ensures { λ r. ⌜ 131 ≡ length r ⌝ }
+{
+    let mut out = [0u8; 131];
+    let mut v = 0;
+    while v < n {
+        out[2 * v] = 1;
+        out[2 * v + 1] = 7;
+        v += 1;
+    }
+    out
+}
+
+fn small_vectors() {
+    read(b"empty graph", b"\x00");
+    read(b"no bytes", b"");
+    read(b"one vertex", b"\x01\x07\x00");
+    read(b"three vertices, two edges", b"\x01\x07\x01\x09\x01\x07\x02\x00\x01\x01\x02\x01\x02\x01\x00");
+    read(b"edge given higher number first", b"\x01\x09\x01\x07\x02\x01\x00\x01\x00");
+    read(b"vertex without label", b"\x01");
+    read(b"second vertex without label", b"\x01\x07\x01");
+    read(b"edge without operands", b"\x01\x07\x01\x07\x02");
+    read(b"edge without label", b"\x01\x07\x01\x07\x02\x00\x01");
+    read(b"no end after a vertex", b"\x01\x07");
+    read(b"no end after an edge", b"\x01\x07\x01\x07\x02\x00\x01\x01");
+    read(b"unknown command", b"\x03");
+    read(b"unknown command as the last byte", b"\x01\x07\x09");
+    read(b"unknown command 255", b"\x01\x07\xff\x00");
+}
+
+fn faulty_vectors() {
+    read(b"label 0", b"\x01\x00\x00");
+    read(b"label 0 of the second vertex", b"\x01\x07\x01\x00\x00");
+    read(b"edge to a vertex not given", b"\x01\x07\x02\x00\x01\x01\x00");
+    read(b"edge from a vertex not given", b"\x01\x07\x02\x01\x00\x01\x00");
+    read(b"edge of a missing vertex with itself", b"\x01\x07\x02\x01\x01\x01\x00");
+    read(b"edge of a vertex with itself", b"\x01\x07\x02\x00\x00\x01\x00");
+    read(b"null edge of a vertex with itself", b"\x01\x07\x02\x00\x00\x00\x00");
+    read(b"edge label 0", b"\x01\x07\x01\x07\x02\x00\x01\x00\x00");
+    read(b"edge repeated", b"\x01\x07\x01\x07\x02\x00\x01\x01\x02\x00\x01\x01\x00");
+    read(b"edge repeated the other way round", b"\x01\x07\x01\x07\x02\x00\x01\x01\x02\x01\x00\x02\x00");
+    read(b"edge repeated with label 0", b"\x01\x07\x01\x07\x02\x00\x01\x01\x02\x01\x00\x00\x00");
+    read(b"a byte after the end", b"\x00\x00");
+    read(b"bytes after the end", b"\x01\x07\x00\x05\x06");
+    read(b"two faults, the first counts", b"\x01\x00\x03");
+}
+
+fn many_vertices() {
+    let full = vertices(64);
+    read(b"64 vertices", &full[..129]);
+    let mut more = vertices(65);
+    read(b"a 65th vertex", &more);
+    more[129] = 0;
+    read(b"a 65th vertex with label 0", &more);
+    read(b"a 65th vertex without label", &more[..129]);
+}
+
+// Every edge between 64 vertices, with label 5.
+fn every_edge() -> [u8; 4096]
+    ensures { λ r. ⌜ 4096 ≡ length r ⌝ }
+{
+    let mut edges = [0u8; 4096];
+    let mut i = 0;
+    while i < 4096 {
+        if i % 65 != 0 {
+            edges[i] = 5;
+        }
+        i += 1;
+    }
+    edges
+}
+
+fn complete_graph() {
+    let labels = [255u8; 64];
+    let edges = every_edge();
+    let mut out = [0u8; 8193];
+    write_into(b"complete graph", 64, &labels, &edges, &mut out);
+    read(b"complete graph", &out);
+    let mut short = [3u8; 8192];
+    write_into(b"complete graph, one byte short", 64, &labels, &edges, &mut short);
+}
+
+fn read_into_63() {
+    let mut labels = [9u8; 63];
+    let mut edges = [9u8; 4096];
+    read_into(b"63 labels", b"\x00", &mut labels, &mut edges);
+}
+
+fn read_into_65() {
+    let mut labels = [9u8; 65];
+    let mut edges = [9u8; 4096];
+    read_into(b"65 labels", b"\x00", &mut labels, &mut edges);
+}
+
+fn read_into_4095() {
+    let mut labels = [9u8; 64];
+    let mut edges = [9u8; 4095];
+    read_into(b"4095 edges", b"\x00", &mut labels, &mut edges);
+}
+
+fn read_into_4097() {
+    let mut labels = [9u8; 64];
+    let mut edges = [9u8; 4097];
+    read_into(b"4097 edges and a fault", b"\x03", &mut labels, &mut edges);
+}
+
+fn ill_sized_tables() {
+    let labels = [0u8; 65];
+    let edges = [0u8; 4097];
+    check(b"order 65", 65, &labels[..64], &edges[..4096]);
+    check(b"63 labels", 0, &labels[..63], &edges[..4096]);
+    check(b"4097 edges", 0, &labels[..64], &edges);
+}
+
+fn unsound_tables() {
+    let mut labels = [0u8; 64];
+    let mut edges = [0u8; 4096];
+    check(b"empty graph", 0, &labels, &edges);
+    check(b"vertex without label", 1, &labels, &edges);
+    labels[0] = 7;
+    labels[1] = 9;
+    check(b"label past the order", 1, &labels, &edges);
+    check(b"two vertices", 2, &labels, &edges);
+    edges[1] = 5;
+    check(b"edge one way only", 2, &labels, &edges);
+    edges[64] = 6;
+    check(b"edge with two labels", 2, &labels, &edges);
+    edges[64] = 5;
+    check(b"edge both ways", 2, &labels, &edges);
+    edges[65] = 1;
+    check(b"edge of a vertex with itself", 2, &labels, &edges);
+    edges[65] = 0;
+    edges[2] = 1;
+    edges[128] = 1;
+    check(b"edge past the order", 2, &labels, &edges);
+    labels[63] = 1;
+    check(b"labels and edges unsound", 2, &labels, &edges);
+}
+
+// Two vertices and an edge, unsound where `back` is not 5 or `second` is 0, into a buffer of 8 bytes.
+fn write_short(name: &[u8], order: usize, second: u8, back: u8) {
+    let mut labels = [0u8; 64];
+    let mut edges = [0u8; 4096];
+    labels[0] = 7;
+    labels[1] = second;
+    edges[1] = 5;
+    edges[64] = back;
+    let mut out = [9u8; 8];
+    write_into(name, order, &labels, &edges, &mut out);
+}
+
+fn room_for_output() {
+    let mut labels = [0u8; 64];
+    let mut edges = [0u8; 4096];
+    labels[0] = 7;
+    labels[1] = 9;
+    edges[1] = 5;
+    edges[64] = 5;
+    let mut just = [9u8; 9];
+    write_into(b"just room", 2, &labels, &edges, &mut just);
+    let mut more = [9u8; 12];
+    write_into(b"more room", 2, &labels, &edges, &mut more);
+    write_short(b"no room", 2, 9, 5);
+    write_short(b"unsound and no room", 2, 9, 0);
+    write_short(b"labels before edges", 2, 0, 0);
+    write_short(b"order before labels", 65, 0, 0);
+}
+
+fn main() {
+    small_vectors();
+    faulty_vectors();
+    many_vertices();
+    complete_graph();
+    read_into_63();
+    read_into_65();
+    read_into_4095();
+    read_into_4097();
+    ill_sized_tables();
+    unsound_tables();
+    room_for_output();
+}
