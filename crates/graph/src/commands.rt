@@ -80,10 +80,10 @@ pub fn add_vertex(label: u8, order: usize, labels: &mut [u8]) -> Step
 }
 
 // An edge between two vertices, entered both ways.
-pub fn add_edge(a: u8, b: u8, label: u8, order: usize, edges: &mut [u8]) -> Step
+pub fn add_edge(a: u8, b: u8, edge_label: u8, order: usize, edges: &mut [u8]) -> Step
     requires { ⌜ (length (now edges) ≡ 4096) × (order ≤ 64) ⌝ }
-    ensures judged { λ r. ⌜ ((labels : List ℕ) → judged r labels (now (edges .exit)) ≡ judge (graph order labels (now (edges .entry))) (Command.Edge a b label)) ⌝ }
-    ensures after { λ r. ⌜ ((labels : List ℕ) → now (edges .exit) ≡ (after (graph order labels (now (edges .entry))) (judge (graph order labels (now (edges .entry))) (Command.Edge a b label))) .edges) ⌝ }
+    ensures judged { λ r. ⌜ ((labels : List ℕ) → judged r labels (now (edges .exit)) ≡ judge (graph order labels (now (edges .entry))) (Command.Edge a b «edge_label»)) ⌝ }
+    ensures after { λ r. ⌜ ((labels : List ℕ) → now (edges .exit) ≡ (after (graph order labels (now (edges .entry))) (judge (graph order labels (now (edges .entry))) (Command.Edge a b «edge_label»))) .edges) ⌝ }
 {
     let from = a as usize;
     let to = b as usize;
@@ -96,14 +96,14 @@ pub fn add_edge(a: u8, b: u8, label: u8, order: usize, edges: &mut [u8]) -> Step
     if from == to {
         return Step::Faulty(Fault::SelfEdge);
     }
-    if label == 0 {
+    if edge_label == 0 {
         return Step::Faulty(Fault::NullEdge);
     }
     if edges[64 * from + to] != 0 {
         return Step::Faulty(Fault::RepeatedEdge);
     }
-    edges[64 * from + to] = label;
-    edges[64 * to + from] = label;
+    edges[64 * from + to] = edge_label;
+    edges[64 * to + from] = edge_label;
     Step::Grown(order)
 }
 

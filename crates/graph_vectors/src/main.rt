@@ -152,8 +152,14 @@ fn small_vectors() {
     read(b"empty graph", b"\x00");
     read(b"no bytes", b"");
     read(b"one vertex", b"\x01\x07\x00");
-    read(b"three vertices, two edges", b"\x01\x07\x01\x09\x01\x07\x02\x00\x01\x01\x02\x01\x02\x01\x00");
-    read(b"edge given higher number first", b"\x01\x09\x01\x07\x02\x01\x00\x01\x00");
+    read(
+        b"three vertices, two edges",
+        b"\x01\x07\x01\x09\x01\x07\x02\x00\x01\x01\x02\x01\x02\x01\x00",
+    );
+    read(
+        b"edge given higher number first",
+        b"\x01\x09\x01\x07\x02\x01\x00\x01\x00",
+    );
     read(b"vertex without label", b"\x01");
     read(b"second vertex without label", b"\x01\x07\x01");
     read(b"edge without operands", b"\x01\x07\x01\x07\x02");
@@ -168,15 +174,39 @@ fn small_vectors() {
 fn faulty_vectors() {
     read(b"label 0", b"\x01\x00\x00");
     read(b"label 0 of the second vertex", b"\x01\x07\x01\x00\x00");
-    read(b"edge to a vertex not given", b"\x01\x07\x02\x00\x01\x01\x00");
-    read(b"edge from a vertex not given", b"\x01\x07\x02\x01\x00\x01\x00");
-    read(b"edge of a missing vertex with itself", b"\x01\x07\x02\x01\x01\x01\x00");
-    read(b"edge of a vertex with itself", b"\x01\x07\x02\x00\x00\x01\x00");
-    read(b"null edge of a vertex with itself", b"\x01\x07\x02\x00\x00\x00\x00");
+    read(
+        b"edge to a vertex not given",
+        b"\x01\x07\x02\x00\x01\x01\x00",
+    );
+    read(
+        b"edge from a vertex not given",
+        b"\x01\x07\x02\x01\x00\x01\x00",
+    );
+    read(
+        b"edge of a missing vertex with itself",
+        b"\x01\x07\x02\x01\x01\x01\x00",
+    );
+    read(
+        b"edge of a vertex with itself",
+        b"\x01\x07\x02\x00\x00\x01\x00",
+    );
+    read(
+        b"null edge of a vertex with itself",
+        b"\x01\x07\x02\x00\x00\x00\x00",
+    );
     read(b"edge label 0", b"\x01\x07\x01\x07\x02\x00\x01\x00\x00");
-    read(b"edge repeated", b"\x01\x07\x01\x07\x02\x00\x01\x01\x02\x00\x01\x01\x00");
-    read(b"edge repeated the other way round", b"\x01\x07\x01\x07\x02\x00\x01\x01\x02\x01\x00\x02\x00");
-    read(b"edge repeated with label 0", b"\x01\x07\x01\x07\x02\x00\x01\x01\x02\x01\x00\x00\x00");
+    read(
+        b"edge repeated",
+        b"\x01\x07\x01\x07\x02\x00\x01\x01\x02\x00\x01\x01\x00",
+    );
+    read(
+        b"edge repeated the other way round",
+        b"\x01\x07\x01\x07\x02\x00\x01\x01\x02\x01\x00\x02\x00",
+    );
+    read(
+        b"edge repeated with label 0",
+        b"\x01\x07\x01\x07\x02\x00\x01\x01\x02\x01\x00\x00\x00",
+    );
     read(b"a byte after the end", b"\x00\x00");
     read(b"bytes after the end", b"\x01\x07\x00\x05\x06");
     read(b"two faults, the first counts", b"\x01\x00\x03");
@@ -214,7 +244,13 @@ fn complete_graph() {
     write_into(b"complete graph", 64, &labels, &edges, &mut out);
     read(b"complete graph", &out);
     let mut short = [3u8; 8192];
-    write_into(b"complete graph, one byte short", 64, &labels, &edges, &mut short);
+    write_into(
+        b"complete graph, one byte short",
+        64,
+        &labels,
+        &edges,
+        &mut short,
+    );
 }
 
 fn read_into_63() {
