@@ -1,0 +1,95 @@
+-- `mapping::rows::first_fault` meets its contract: the rows looked at so far are clear, so that their entries are below 64.
+-- Assumes nothing.
+use borrow.Author.Needs.{needs}
+use borrow.Author.Tests.{ltb-true, ne-eqb}
+use mathlib.Core.Path.{_≡_, refl, ap, sym, _∙_}
+use mathlib.Core.Bool.{Bool, true, false}
+use mathlib.Core.List.{List}
+use mathlib.Core.Option.{none}
+use Prim.Native.Nat.{ℕ, _-_, _<_}
+use native.Mathlib.Omega.{arith}
+use lib.Dec.{ltb}
+use lib.ListN.{length, getD}
+use Rattle.graph.specs.Graph.{graph}
+use Rattle.mapping.specs.Problem.{Problem, problem}
+use Rattle.mapping.specs.Common.{unmapped}
+use Rattle.mapping.specs.Check.{rowFault, finding}
+use Rattle.mapping.proofs.First.{ClearTo, clear-none, clear-more, clear-all, clear-found}
+use Rattle.mapping.proofs.rows.first_fault.Statement.{statement}
+use Rattle.mapping.proofs.rows.first_fault.Tie as tie
+
+-- a clear row that is mapped is mapped to a new vertex
+clear-entry : (P : Problem) (l : List ℕ) (u : ℕ) → rowFault P l u ≡ none → (getD l u 0 ≡ unmapped → ⊥) → getD l u 0 < P .new .order
+unfolding rowFault
+clear-entry P l u e m = go (ltb (getD l u 0) (P .new .order)) refl
+  where
+    go : (b : Bool) → ltb (getD l u 0) (P .new .order) ≡ b → getD l u 0 < P .new .order
+    go true t = ltb-true _ _ t
+    go false t =
+        let e′ = simp (ne-eqb (getD l u 0) unmapped m, t) at e in
+        let z : _≡_ {A = ℕ} 0 1 = cc in absurd (omega arith)
+
+abbrev Inv-loop : tie.InvT-loop
+Inv-loop old-labels old-edges new-order new-labels new-edges mapping v₀ v =
+    ClearTo (length mapping) (rowFault (problem (graph 0 old-labels old-edges) (graph new-order new-labels new-edges)) mapping) v
+
+abbrev μ-loop : tie.MeasureT-loop
+μ-loop old-labels old-edges new-order new-labels new-edges mapping v₀ v = length mapping - v
+
+loop-holds : tie.Need-loop-holds Inv-loop μ-loop
+loop-holds c = clear-none _ _
+
+row-fault-requires : tie.Need-row-fault-requires Inv-loop μ-loop
+row-fault-requires c κs =
+    let s = c .before .before .before .before .before .before .before in (
+      s .pre .0,
+      (
+        (s .pre .1 .0, s .pre .1 .1, c .loop-test .taken),
+        λ u h m.
+            let below = clear-entry _ _ u (c .before .loop .inv .1 u h) m in
+            omega (arith, below, s .pre .1 .0),
+      ),
+    )
+
+enum-known-answer : tie.Need-enum-known-answer Inv-loop μ-loop
+enum-known-answer c = search needs
+
+returns : tie.Need-returns Inv-loop μ-loop
+returns c =
+    let r = c .before .before .before in
+    sym (clear-found _ _ _ _ (r .before .loop-test .taken) (r .before .before .loop .inv)
+    (sym (r .row-fault .ensures) ∙ ap finding (c .before .answer .given .1)))
+
+enum-told : tie.Need-enum-told Inv-loop μ-loop
+enum-told c = search needs
+
+add-v : tie.Need-add-v Inv-loop μ-loop
+add-v c = search needs
+
+loop-less : tie.Need-loop-less Inv-loop μ-loop
+loop-less c = search needs
+
+loop-again : tie.Need-loop-again Inv-loop μ-loop
+loop-again c =
+    let r = c .before .before in
+    clear-more _ _ _ (r .before .loop-test .taken) (r .before .before .loop .inv)
+    (sym (r .row-fault .ensures) ∙ ap finding (c .enum-told .given .1))
+
+returns-2 : tie.Need-returns-2 Inv-loop μ-loop
+returns-2 c = sym (clear-all _ _ _ (c .loop-test .left) (c .before .loop .inv))
+
+pub first-fault-spec : {M : Type 1} → statement M
+first-fault-spec =
+    tie.close
+    (tie.spec
+    Inv-loop
+    μ-loop
+    loop-holds
+    row-fault-requires
+    enum-known-answer
+    returns
+    enum-told
+    add-v
+    loop-less
+    loop-again
+    returns-2)

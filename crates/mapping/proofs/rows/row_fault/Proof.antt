@@ -1,0 +1,73 @@
+-- `mapping::rows::row_fault` meets its contract: at each return the tests that led there say what `rowFault` computes to.
+-- Assumes nothing.
+use borrow.Author.Needs.{needs}
+use borrow.Author.Tests.{eq-eqb, ne-eqb, lt-ltb, le-ltb, not-true, not-false}
+use mathlib.Core.Path.{sym, _∙_}
+use Prim.Native.Nat.{_≤_, _<_}
+use native.Mathlib.Omega.{arith}
+use lib.ListN.{getD}
+use Rattle.mapping.specs.Check.{rowFault}
+use Rattle.mapping.proofs.rows.row_fault.Statement.{statement}
+use Rattle.mapping.proofs.rows.row_fault.Tie as tie
+
+shared-slice-read-partner : tie.Need-shared-slice-read-partner
+shared-slice-read-partner c = search needs
+
+returns : tie.Need-returns
+unfolding rowFault
+returns c = simp (eq-eqb _ _ (c .if1 .taken))
+
+cast-w : tie.Need-cast-w
+cast-w c =
+    let k = c .before in
+    omega (arith, k .shared-slice-known6 .given (k .before .before .before .before .before .before .args .v .0))
+
+returns-2 : tie.Need-returns-2
+unfolding rowFault
+returns-2 c =
+    let a = c .before .before .before .before .before .before .before .before .args in
+    let past : a .new-order ≤ getD (a .mapping .now) (a .v .0) 0 = omega arith in
+    simp (ne-eqb _ _ (c .before .if1 .left), le-ltb _ _ past)
+
+compare-vertices-requires : tie.Need-compare-vertices-requires
+compare-vertices-requires c κs = search needs
+
+returns-3 : tie.Need-returns-3
+unfolding rowFault
+returns-3 c =
+    let e = c .before in
+    simp (
+      ne-eqb _ _ (e .before .before .if1 .left),
+      lt-ltb _ _ (e .before .if2 .left),
+      sym (e .compare-vertices .ensures) ∙ not-true _ (c .if3 .taken),
+    )
+
+first-clash-requires : tie.Need-first-clash-requires
+first-clash-requires c κs =
+    let s = c .before .before .before .before .before .before .before .before .before .before in
+    let below : getD (s .args .mapping .now) (s .args .v .0) 0 < 64 = omega (arith, c .before .before .if2 .left, s .pre .1 .0 .0) in
+    ((s .pre .0 .1, s .pre .0 .3, s .pre .1 .0 .1, s .pre .1 .0 .2), (below, s .pre .1 .1))
+
+returns-4 : tie.Need-returns-4
+unfolding rowFault
+returns-4 c =
+    let e = c .before .before in
+    simp (
+      ne-eqb _ _ (e .before .before .if1 .left),
+      lt-ltb _ _ (e .before .if2 .left),
+      sym (e .compare-vertices .ensures) ∙ not-false _ (c .before .if3 .left),
+    )
+    (c .first-clash .ensures)
+
+pub row-fault-spec : {M : Type 1} → statement M
+row-fault-spec =
+    tie.close
+    (tie.spec
+    shared-slice-read-partner
+    returns
+    cast-w
+    returns-2
+    compare-vertices-requires
+    returns-3
+    first-clash-requires
+    returns-4)

@@ -1,0 +1,56 @@
+-- The check of a mapping, by the row "Partner list" of 01's refusals: 18, then row by row 19, 21, and against each earlier mapped row, rising, 20 and 22.
+use mathlib.Core.Bool.{cond}
+use mathlib.Core.List.{List}
+use mathlib.Core.Option.{Option, none, some}
+use mathlib.Core.Path.{_≡_}
+use Prim.Native.Nat.{ℕ, _<_}
+use lib.Dec.{ltb, eqb}
+use lib.ListN.{length, getD}
+use Rattle.graph.specs.Answers as graph
+use Rattle.mapping.specs.Problem.{Problem, compareVertices, compareEdges, problemAnswer}
+use Rattle.mapping.specs.Common.{unmapped, size}
+use Rattle.mapping.specs.First.{firstBelow}
+use Rattle.mapping.specs.Answers.{Outcome, accepted, refused, refusedRow, refusedRows, mappingOutcome}
+use Rattle.mapping.specs.declared.rows.Finding.{Finding}
+use Rattle.mapping.specs.declared.rows.Finding.the-variants.{Clear, Fault}
+
+-- what the code's `Finding` says
+abbrev pub finding : Finding → Option Outcome
+finding Clear = none
+finding (Fault answer) = some (mappingOutcome answer)
+
+-- the mapped entries before row v are below 64, so that they are places of the new graph's tables
+abbrev pub EntriesBelow : List ℕ → ℕ → Type 0
+EntriesBelow l v = (u : ℕ) → u < v → (getD l u 0 ≡ unmapped → ⊥) → getD l u 0 < 64
+
+-- row v on w against the earlier row u, on the entry there; "left-out rows are passed over"
+abbrev pub clash : Problem → List ℕ → ℕ → ℕ → Option Outcome
+clash P l v u =
+    cond (eqb (getD l u 0) unmapped) none
+    (cond (eqb (getD l u 0) (getD l v 0)) (some (refusedRows 20 v u))
+    (cond (compareEdges P u v (getD l u 0) (getD l v 0)) none (some (refusedRows 22 v u))))
+
+unfoldable pub rowFault : Problem → List ℕ → ℕ → Option Outcome
+rowFault P l v =
+    cond (eqb (getD l v 0) unmapped) none
+    (cond (ltb (getD l v 0) (P .new .order))
+    (cond (compareVertices P v (getD l v 0)) (firstBelow v (clash P l v)) (some (refusedRow 21 v)))
+    (some (refusedRow 19 v)))
+
+abbrev pub onFault : Option Outcome → Outcome → Outcome
+onFault (some fault) o = fault
+onFault none o = o
+
+unfoldable pub listOutcome : Problem → List ℕ → Outcome
+listOutcome P l =
+    cond (eqb (length l) (P .old .order)) (onFault (firstBelow (length l) (rowFault P l)) (accepted (size l))) (refused 18)
+
+abbrev pub onProblem : graph.Answer → Outcome → Outcome
+onProblem graph.passed o = o
+onProblem (graph.accepted n) o = accepted n
+onProblem (graph.refused n) o = refused n
+onProblem (graph.refusedAt n at) o = refusedRow n at
+
+-- all of it: 10, 11 and 12 come first
+unfoldable pub checkOutcome : Problem → List ℕ → Outcome
+checkOutcome P l = onProblem (problemAnswer P) (listOutcome P l)

@@ -1,0 +1,150 @@
+-- How the walk counts: k visits make k steps until the total, from which on nothing changes, and the total is branch and bound's.
+use mathlib.Core.Path.{_≡_, refl, sym, ap, subst, _∙_}
+use mathlib.Core.Logic.{_↔_}
+use mathlib.Core.Bool.{Bool, true, false, cond, true≢false, false≢true}
+use mathlib.Core.Option.{Option, some}
+use mathlib.Core.List.{List, [], _∷_, cons-ne-nil}
+use Prim.Native.Nat.{ℕ, zero, suc, _+_, _≤_, _<_, min}
+use native.Mathlib.Decide.{decLe, le-ind}
+use native.Mathlib.Omega.{arith}
+use lib.Dec.{ltb}
+use lib.ListN.{length}
+use Rattle.branch_bound.specs.Tree.{Lawful}
+use Rattle.branch_bound.specs.Search as Search
+use Rattle.branch_bound.proofs.Ends as Ends
+use Rattle.mapping.specs.Common.{unmapped}
+use Rattle.mapping.specs.Order.{Before}
+use Rattle.search_tree.specs.Rules.{Rules}
+use Rattle.search_tree.specs.Node.{upperBound, isLast, children, laterSiblings, openNodes}
+use Rattle.search_tree.specs.Trees.{tree}
+use Rattle.search_tree.specs.Walk.{State, cutoff, goOn, visitPath, visit, after, IsTotal}
+use Rattle.search_tree.proofs.Simulation.{search, after-search}
+
+-- the count does not depend on which node is next
+goOn-steps : (steps : ℕ) (held : Option (List ℕ)) (nodes : List (List ℕ)) → goOn steps held nodes .steps ≡ steps
+goOn-steps steps held [] = refl
+goOn-steps steps held (path ∷ rest) = refl
+
+module _ (R : Rules) (minimum : ℕ) where
+  visitPath-steps : (steps : ℕ) (path : List ℕ) (held : Option (List ℕ)) → visitPath R minimum steps path held .steps ≡ steps
+  unfolding visitPath
+  visitPath-steps steps path held = go (ltb (upperBound R path) (cutoff minimum held)) (isLast R path)
+    where
+      later : List (List ℕ)
+      later = laterSiblings R path (length path)
+
+      go : (low final : Bool)
+          → cond low (goOn steps held later)
+          (cond final (goOn steps (cond (R .admits path) (some path) held) later) (goOn steps held (children R path))) .steps ≡ steps
+      go true final = goOn-steps steps held later
+      go false true = goOn-steps steps (cond (R .admits path) (some path) held) later
+      go false false = goOn-steps steps held (children R path)
+
+  -- A visit of an unfinished search is one step.
+  pub visit-steps : (s : State) → s .finished ≡ false → visit R minimum s .steps ≡ s .steps + 1
+  unfolding visit
+  visit-steps s busy = rw busy (visitPath-steps (s .steps + 1) (s .path) (s .held))
+
+  -- A visit leaves a finished search as it is.
+  pub visit-finished : (s : State) → s .finished ≡ true → visit R minimum s ≡ s
+  unfolding visit
+  visit-finished s end = rw end
+
+  -- Once finished nothing changes.
+  pub finished-stays : (k j : ℕ) → after R minimum k .finished ≡ true → k ≤ j → after R minimum j ≡ after R minimum k
+  unfolding after
+  finished-stays k j end = le-ind (λ j. after R minimum j ≡ after R minimum k) refl
+      (λ j h same. ap (visit R minimum) same ∙ visit-finished (after R minimum k) end) j
+
+  -- What is unfinished after k visits was unfinished before.
+  pub unfinished-before : (k j : ℕ) → after R minimum k .finished ≡ false → j ≤ k → after R minimum j .finished ≡ false
+  unfinished-before k j busy h = go (after R minimum j .finished) refl
+    where
+      go : (b : Bool) → after R minimum j .finished ≡ b → b ≡ false
+      go false e = refl
+      go true e = absurd (true≢false (sym e ∙ ap (λ (s : State). s .finished) (sym (finished-stays j k e h)) ∙ busy))
+
+  -- Where each state before was unfinished, k visits made k steps.
+  pub steps-busy : (k : ℕ) → ((j : ℕ) → j < k → after R minimum j .finished ≡ false) → after R minimum k .steps ≡ k
+  unfolding after
+  steps-busy zero busy = refl
+  steps-busy (suc k) busy =
+      omega (arith, visit-steps (after R minimum k) (busy k (omega arith)), steps-busy k (λ j h. busy j (omega arith)))
+
+  -- While the search is unfinished, k visits made k steps.
+  pub steps-unfinished : (k : ℕ) → after R minimum k .finished ≡ false → after R minimum k .steps ≡ k
+  steps-unfinished k busy = steps-busy k (λ j h. unfinished-before k j busy (omega arith))
+
+  module _ {t : ℕ} (total : IsTotal R minimum t) where
+    -- The search is finished exactly from the total on.
+    pub finished-from : (k : ℕ) → (after R minimum k .finished ≡ true) ↔ (t ≤ k)
+    finished-from k = (
+      λ end. go end (decLe t k),
+      λ h. ap (λ (s : State). s .finished) (finished-stays t k (total .ended) h) ∙ total .ended,
+    )
+      where
+        go : after R minimum k .finished ≡ true → Dec (t ≤ k) → t ≤ k
+        go end (yes h) = h
+        go end (no nh) = absurd (true≢false (sym end ∙ total .busy k (omega arith)))
+
+    -- Up to the total k visits make k steps.
+    pub steps-before : (k : ℕ) → k ≤ t → after R minimum k .steps ≡ k
+    steps-before k h = steps-busy k (λ j l. total .busy j (omega arith))
+
+    -- From the total on nothing changes.
+    pub unchanged-after : (k : ℕ) → t ≤ k → after R minimum k ≡ after R minimum t
+    unchanged-after k h = finished-stays t k (total .ended) h
+
+    -- k visits make k steps, or as many as the total if that is less.
+    pub steps-total : (k : ℕ) → after R minimum k .steps ≡ min k t
+    steps-total k = go (decLe k t)
+      where
+        go : Dec (k ≤ t) → after R minimum k .steps ≡ min k t
+        go (yes h) = omega (arith, steps-before k h)
+        go (no nh) = omega (arith, ap (λ (s : State). s .steps) (unchanged-after k (omega arith)), steps-before t (omega arith))
+
+  -- There is one total.
+  pub total-unique : {t u : ℕ} → IsTotal R minimum t → IsTotal R minimum u → t ≡ u
+  total-unique {t} {u} a b =
+      let below : t ≤ u = finished-from a u .0 (b .ended) in
+      let above : u ≤ t = finished-from b t .0 (a .ended) in
+      omega arith
+
+-- A search is finished exactly where no node is open.
+pub finished-none-open : (R : Rules) (s : State) → (s .finished ≡ true) ↔ (search R s .nodes ≡ [])
+unfolding openNodes
+finished-none-open R s = go (s .finished) (s .path)
+  where
+    go : (finished : Bool) (path : List ℕ) → (finished ≡ true) ↔ (cond finished [] (openNodes R path) ≡ [])
+    go true path = (λ e. refl, λ e. refl)
+    go false path = (λ e. absurd (false≢true e), λ e. absurd (cons-ne-nil _ _ e))
+
+module _ (R : Rules) (few : R .values ≤ unmapped) (minimum : ℕ) where
+  -- The walk is finished exactly when branch and bound is.
+  pub finished-search : (k : ℕ) → (after R minimum k .finished ≡ true) ↔ (Search.after (tree R) minimum [] k .nodes ≡ [])
+  finished-search k =
+      subst (λ (x : Search.State (tree R)). (after R minimum k .finished ≡ true) ↔ (x .nodes ≡ [])) (after-search R few minimum k)
+      (finished-none-open R (after R minimum k))
+
+  -- The walk's total is branch and bound's.
+  pub total-search : (t : ℕ) → IsTotal R minimum t ↔ Search.IsTotal (tree R) minimum [] t
+  total-search t = (
+    λ total. record {
+      finished = finished-search t .0 (total .ended);
+      busy = λ k h e. true≢false (sym (finished-search k .1 e) ∙ total .busy k h);
+    },
+    λ total. record {
+      ended = finished-search t .1 (total .finished);
+      busy = λ k h. unfinished (after R minimum k .finished) (λ e. total .busy k h (finished-search k .0 e));
+    },
+  )
+    where
+      unfinished : (b : Bool) → (b ≡ true → ⊥) → b ≡ false
+      unfinished true n = absurd (n refl)
+      unfinished false n = refl
+
+  -- The walk ends: it has a total, at most the weight of the root.
+  pub total-exists : {weight : List ℕ → ℕ} → Lawful (tree R) weight Before → (t : ℕ) × IsTotal R minimum t × (t ≤ weight [])
+  total-exists L =
+      let end = Ends.total-exists L minimum [] in
+      (end .0, total-search (end .0) .1 (end .1), end .2)

@@ -1,0 +1,72 @@
+-- The walk of a problem between two sound graphs: it holds common subgraphs only, its ceiling is above them all, it ends, and at its end
+-- it holds the best one (01, the properties of an answer).
+use mathlib.Core.Path.{_≡_, refl, subst}
+use mathlib.Core.Logic.{_↔_}
+use mathlib.Core.List.{List}
+use mathlib.Core.Option.{Option, some}
+use Prim.Native.Nat.{ℕ, _≤_, _<_}
+use native.Mathlib.Omega.{arith}
+use Rattle.mapping.specs.Problem.{Problem, SoundProblem}
+use Rattle.mapping.specs.Common.{size, Common}
+use Rattle.mapping.proofs.Consistent.{consistent-facts}
+use Rattle.search_tree.specs.Rules.{Regular, rulesOf}
+use Rattle.search_tree.specs.StepLimit.{stepLimit}
+use Rattle.search_tree.specs.Walk.{after, IsTotal}
+use Rattle.search_tree.specs.Ceiling.{ceiling}
+use Rattle.search_tree.specs.Best.{Best}
+use Rattle.search_tree.proofs.Weight.{weight-root}
+use Rattle.search_tree.proofs.LawfulTree.{lawful}
+use Rattle.search_tree.proofs.Steps.{total-exists}
+use Rattle.search_tree.proofs.Shape.{HeldShape}
+use Rattle.search_tree.proofs.ReachedCommon.{full-common, last-common}
+use Rattle.search_tree.proofs.Best.{best-same, best-unique}
+use Rattle.search_tree.proofs.Solutions.{Solution, held-candidate, solution-below, total-best}
+
+module _ (P : Problem) (sound : SoundProblem P) where
+  -- The rules of two sound graphs are regular: a new vertex is below 64, and two rows that stand together have two partners.
+  pub rules-regular : Regular (rulesOf P)
+  rules-regular = record {
+    few = omega (arith, sound .new-sound .order-max);
+    distinct = λ i w r v e same. consistent-facts P i w r v e .0 same;
+  }
+
+  -- The walk's solutions are the common subgraphs.
+  pub solution-common : (l : List ℕ) → Solution (rulesOf P) l ↔ Common P l
+  solution-common l = (
+    λ s. last-common P sound l .0 (s .under),
+    λ c. record { under = last-common P sound l .1 c; admitted = refl },
+  )
+
+  module _ (minimum : ℕ) where
+    -- A held matching is in shape exactly when it is a common subgraph that reaches the minimum.
+    pub held-shape-common : (h : List ℕ) → HeldShape (rulesOf P) minimum h ↔ (Common P h × (minimum ≤ size h))
+    held-shape-common h = (
+      λ s. (full-common P sound h .0 (s .reached, s .full), s .reaches),
+      λ c. let r = full-common P sound h .1 (c .0) in record { reached = r .0; full = r .1; admitted = refl; reaches = c .1 },
+    )
+
+    -- What is held after any number of visits is a common subgraph that reaches the minimum.
+    pub held-common : (k : ℕ) (h : List ℕ) → after (rulesOf P) minimum k .held ≡ some h → Common P h × (minimum ≤ size h)
+    held-common k h e =
+        let c = held-candidate (rulesOf P) (rules-regular .few) minimum (lawful (rulesOf P) rules-regular) k h e in
+        (last-common P sound h .0 (c .under), c .reaches)
+
+    -- Every common subgraph is below the ceiling after any number of visits.
+    pub common-below : (k : ℕ) (l : List ℕ) → Common P l → size l < ceiling (rulesOf P) minimum (after (rulesOf P) minimum k)
+    common-below k l c =
+        solution-below (rulesOf P) (rules-regular .few) minimum (lawful (rulesOf P) rules-regular) k l (solution-common l .1 c)
+
+    -- The walk ends: it has a total, at most the step limit of its values and rows.
+    pub walk-ends : (t : ℕ) × IsTotal (rulesOf P) minimum t × (t ≤ stepLimit (P .new .order) (P .old .order))
+    walk-ends =
+        let end = total-exists (rulesOf P) (rules-regular .few) minimum (lawful (rulesOf P) rules-regular) in
+        (end .0, end .1, subst (λ (m : ℕ). end .0 ≤ m) (weight-root (rulesOf P)) (end .2))
+
+    module _ {t : ℕ} (total : IsTotal (rulesOf P) minimum t) where
+      -- At the total the best is held: a largest common subgraph and of those the first, or nothing where none reaches the minimum.
+      pub common-best : Best (Common P) minimum (after (rulesOf P) minimum t .held)
+      common-best = best-same solution-common (total-best (rulesOf P) (rules-regular .few) minimum (lawful (rulesOf P) rules-regular) total)
+
+      -- Nothing else is best.
+      pub common-best-unique : (held : Option (List ℕ)) → Best (Common P) minimum held → held ≡ after (rulesOf P) minimum t .held
+      common-best-unique held b = best-unique held (after (rulesOf P) minimum t .held) b common-best

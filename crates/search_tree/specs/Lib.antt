@@ -1,0 +1,7 @@
+pub mod Rules
+pub mod Node
+pub mod Walk
+pub mod Ceiling
+pub mod StepLimit
+pub mod Best
+pub mod Trees
