@@ -5,7 +5,7 @@ use borrow.Author.Tests.{ltb-true, ne-eqb}
 use mathlib.Core.Path.{_≡_, refl, ap, sym, _∙_}
 use mathlib.Core.Bool.{Bool, true, false}
 use mathlib.Core.List.{List}
-use mathlib.Core.Option.{none}
+use mathlib.Core.Option.{none, Option·some-ne-none}
 use Prim.Native.Nat.{ℕ, _-_, _<_}
 use native.Mathlib.Omega.{arith}
 use lib.Dec.{ltb}
@@ -25,9 +25,7 @@ clear-entry P l u e m = go (ltb (getD l u 0) (P .new .order)) refl
   where
     go : (b : Bool) → ltb (getD l u 0) (P .new .order) ≡ b → getD l u 0 < P .new .order
     go true t = ltb-true _ _ t
-    go false t =
-        let e′ = simp (ne-eqb (getD l u 0) unmapped m, t) at e in
-        let z : _≡_ {A = ℕ} 0 1 = cc in absurd (omega arith)
+    go false t = absurd (Option·some-ne-none _ (simp (ne-eqb (getD l u 0) unmapped m, t) at e))
 
 abbrev Inv-loop : tie.InvT-loop
 Inv-loop old-labels old-edges new-order new-labels new-edges mapping v₀ v =
