@@ -63,16 +63,16 @@ pub fn clash(
 {
     let row = v.0;
     let earlier = u.0;
-    let partner = mapping[row];
+    let image = mapping[row];
     let other = mapping[earlier];
     if other == 255 {
         return Finding::Clear;
     }
-    if other == partner {
+    if other == image {
         return Finding::Fault(MappingAnswer::SamePartner(v, u));
     }
     let from = other as usize;
-    let to = partner as usize;
+    let to = image as usize;
     if compare_edges(old_edges, new_edges, u, v, NewVertex(from), NewVertex(to)) {
         return Finding::Clear;
     }
@@ -116,11 +116,11 @@ pub fn row_fault(
     ensures { λ r. ⌜ finding r ≡ rowFault (problem (graph 0 (now («old_labels» .entry)) (now («old_edges» .entry))) (graph «new_order» (now («new_labels» .entry)) (now («new_edges» .entry)))) (now (mapping .entry)) (v .0) ⌝ }
 {
     let row = v.0;
-    let partner = mapping[row];
-    if partner == 255 {
+    let image = mapping[row];
+    if image == 255 {
         return Finding::Clear;
     }
-    let w = partner as usize;
+    let w = image as usize;
     if new_order <= w {
         return Finding::Fault(MappingAnswer::NoVertex(v));
     }

@@ -7,8 +7,8 @@ use native.Mathlib.Omega.{arith}
 use Rattle.mapping.proofs.rows.clash.Statement.{statement}
 use Rattle.mapping.proofs.rows.clash.Tie as tie
 
-shared-slice-read-partner : tie.Need-shared-slice-read-partner
-shared-slice-read-partner c = search needs
+shared-slice-read-image : tie.Need-shared-slice-read-image
+shared-slice-read-image c = search needs
 
 shared-slice-read-other : tie.Need-shared-slice-read-other
 shared-slice-read-other c = search needs
@@ -46,7 +46,7 @@ pub clash-spec : {M : Type 1} → statement M
 clash-spec =
     tie.close
     (tie.spec
-    shared-slice-read-partner
+    shared-slice-read-image
     shared-slice-read-other
     returns
     returns-2

@@ -10,8 +10,8 @@ use Rattle.mapping.specs.Check.{rowFault}
 use Rattle.mapping.proofs.rows.row_fault.Statement.{statement}
 use Rattle.mapping.proofs.rows.row_fault.Tie as tie
 
-shared-slice-read-partner : tie.Need-shared-slice-read-partner
-shared-slice-read-partner c = search needs
+shared-slice-read-image : tie.Need-shared-slice-read-image
+shared-slice-read-image c = search needs
 
 returns : tie.Need-returns
 unfolding rowFault
@@ -63,7 +63,7 @@ pub row-fault-spec : {M : Type 1} → statement M
 row-fault-spec =
     tie.close
     (tie.spec
-    shared-slice-read-partner
+    shared-slice-read-image
     returns
     cast-w
     returns-2
