@@ -1,7 +1,6 @@
 pub mod AllBelow
 pub mod Below
 pub mod Bytes
-pub mod Examples
 pub mod Fuel
 pub mod Judge
 pub mod Length

@@ -10,6 +10,7 @@ ghost use mathlib.Core.Path.{_≡_};
 ghost use Rattle.graph.specs.Graph.{graph};
 ghost use Rattle.graph.specs.Answers.{soundnessAnswer};
 ghost use Rattle.mapping.specs.Problem.{problem, problemAnswer};
+ghost use Rattle.mapping.specs.Common.{size};
 ghost use Rattle.mapping.specs.Answers.{mappingOutcome};
 ghost use Rattle.mapping.specs.Check.{checkOutcome};
 
@@ -27,6 +28,13 @@ pub enum MappingAnswer {
     SamePartner(OldVertex, OldVertex),
     LabelsDiffer(OldVertex),
     EdgesDiffer(OldVertex, OldVertex),
+}
+
+// The number of pairs of a mapping.
+pub fn mapping_size(mapping: &[u8]) -> usize
+    ensures { λ r. ⌜ r ≡ size (now (mapping .entry)) ⌝ }
+{
+    rows::size(mapping)
 }
 
 // Whether both sets of tables hold sound graphs; the lengths and orders of both come first, then the old graph.

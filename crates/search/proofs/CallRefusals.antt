@@ -1,0 +1,60 @@
+-- A search call by its tests in their order: the refusals, and the accepted call on the words that it needs.
+use mathlib.Core.Path.{_≡_, ap, _∙_}
+use mathlib.Core.Bool.{true, false}
+use mathlib.Core.List.{List, _++_, append-nil}
+use Prim.Native.Nat.{ℕ, _≤_, _<_}
+use native.Mathlib.Omega.{arith}
+use lib.ListN.{length, take, drop, replicate, drop-of-length-le, length-take}
+use borrow.Author.Tests.{le-leb, lt-leb}
+use Rattle.graph.specs.Answers.{passed, refused}
+use Rattle.mapping.specs.Problem.{Problem, problemAnswer}
+use Rattle.search.specs.declared.Checkpoint.{Checkpoint}
+use Rattle.search.specs.Checkpoints.{inShape}
+use Rattle.search.specs.Call.{Called, wordsNeeded, refuse, advance, countFits, searchCall}
+
+-- what is changed of a list's first m entries, with its later ones put back
+front-put-back : (m : ℕ) (zeros l : List ℕ) → (zeros ++ drop m (take m l)) ++ drop m l ≡ zeros ++ drop m l
+front-put-back m zeros l =
+    ap (λ (t : List ℕ). (zeros ++ t) ++ drop m l) (drop-of-length-le (take m l) {i = m} (omega (arith, length-take m l)))
+    ∙ ap (λ (t : List ℕ). t ++ drop m l) (append-nil zeros)
+
+module _ (P : Problem) (c : Checkpoint) (budget : ℕ) (workspace : List ℕ) where
+  -- Unsound graphs are refused first.
+  pub call-flawed : (number : ℕ) → problemAnswer P ≡ refused number → refuse c workspace number ≡ searchCall P c budget workspace
+  unfolding searchCall
+  call-flawed number e = rw e
+
+  module _ (sound : problemAnswer P ≡ passed) where
+    -- Then a checkpoint out of shape.
+    pub call-shape : inShape P c ≡ false → refuse c workspace 14 ≡ searchCall P c budget workspace
+    unfolding searchCall
+    call-shape off = rw (sound, off)
+
+    module _ (shape : inShape P c ≡ true) where
+      -- Then too few words.
+      pub call-words : length workspace < wordsNeeded → refuse c workspace 15 ≡ searchCall P c budget workspace
+      unfolding searchCall
+      call-words few = rw (sound, shape, lt-leb wordsNeeded (length workspace) few)
+
+      module _ (room : wordsNeeded ≤ length workspace) where
+        -- Then steps that would not count in 64 bits.
+        pub call-count : countFits c budget ≡ false → refuse c workspace 16 ≡ searchCall P c budget workspace
+        unfolding searchCall
+        call-count off = rw (sound, shape, le-leb wordsNeeded (length workspace) room, off)
+
+        -- What is not refused is accepted.
+        pub call-accepted : countFits c budget ≡ true → advance P c budget workspace ≡ searchCall P c budget workspace
+        unfolding searchCall
+        call-accepted fits = rw (sound, shape, le-leb wordsNeeded (length workspace) room, fits)
+
+  -- An accepted call on the words that it needs is one on all of them, with the later ones put back.
+  pub front-advanced : (r : Called) → r ≡ advance P c budget (take wordsNeeded workspace)
+      → _≡_ {A = Called}
+      (record { answer = r .answer; checkpoint = r .checkpoint; workspace = r .workspace ++ drop wordsNeeded workspace })
+      (advance P c budget workspace)
+  unfolding advance
+  front-advanced r e = λ i. record {
+    answer = e i .answer;
+    checkpoint = e i .checkpoint;
+    workspace = (ap (λ (x : Called). x .workspace ++ drop wordsNeeded workspace) e ∙ front-put-back wordsNeeded (replicate wordsNeeded 0) workspace) i;
+  }

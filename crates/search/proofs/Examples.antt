@@ -1,0 +1,209 @@
+-- 01, "Marked examples to prove": all fourteen rows, by the definitions that the contracts cite. The walk and the readings are computed;
+-- that the graphs read are sound is cited, as computing it would take minutes.
+use mathlib.Core.Path.{_≡_, refl, ap, _∙_}
+use mathlib.Core.Bool.{Bool, true, false, _&&_, and-eq-true-iff}
+use mathlib.Core.List.{List, [], _∷_, _++_, append-nil}
+use mathlib.Core.Option.{Option, none, some}
+use Prim.Native.Nat.{ℕ, zero, suc, _≤_, _<_, _^_}
+use native.Mathlib.Omega.{arith}
+use lib.Dec.{leb, lit<}
+use lib.ListN.{getD, replicate, length-replicate, drop-of-length-le}
+use borrow.Author.Tests.{leb-true}
+use Rattle.graph.specs.Graph.{Graph, graph, Sound}
+use Rattle.graph.specs.Answers.{Answer, passed, accepted, refused, refusedAt}
+use Rattle.graph.specs.Below.{allBelow, sumBelow, runBelow}
+use Rattle.graph.specs.Reading.{Reading, reading, readFrom, judge, refuseAt}
+use Rattle.graph.proofs.ReadSound.{reading-sound}
+use Rattle.mapping.specs.Problem.{Problem, SoundProblem, problem, allowed, consistent}
+use Rattle.mapping.specs.Common.{mappedFrom, size}
+use Rattle.search_tree.specs.Rules.{rulesOf}
+use Rattle.search_tree.specs.Node.{candidate, candidates, upperBound, choices, children, choicesAfter, laterSiblings, openNodes}
+use Rattle.search_tree.specs.Walk.{State, visitPath, visit, after}
+use Rattle.search_tree.specs.Ceiling.{topBound, ceiling}
+use Rattle.search.specs.declared.Checkpoint.{Checkpoint}
+use Rattle.search.specs.Checkpoints.{freshCheckpoint, checkpointOf}
+use Rattle.search.specs.Call.{Called, wordsNeeded, arrive, searchCall}
+use Rattle.search.specs.ThirdProperty.{heldIn}
+use Rattle.search.proofs.WalkCall.{fresh-call}
+
+abbrev orderOf : Answer → ℕ
+orderOf (accepted n) = n
+orderOf passed = 0
+orderOf (refused n) = 0
+orderOf (refusedAt n at) = 0
+
+abbrev graphOf : Reading → Graph
+graphOf r = graph (orderOf (r .answer)) (r .labels) (r .edges)
+
+-- the tables lent hold 9 throughout, so that what is left in them is seen
+abbrev readTables : List ℕ → Reading
+readTables bytes = reading (replicate 64 9) (replicate 4096 9) bytes
+
+abbrev read : List ℕ → Graph
+read bytes = graphOf (readTables bytes)
+
+abbrev between : List ℕ → List ℕ → Problem
+between old new = problem (read old) (read new)
+
+-- 01's P: old 1 7 1 9 1 7 2 0 1 1 2 1 2 1 0, new 1 9 1 7 2 0 1 1 0
+abbrev old : List ℕ
+old = 1 ∷ 7 ∷ 1 ∷ 9 ∷ 1 ∷ 7 ∷ 2 ∷ 0 ∷ 1 ∷ 1 ∷ 2 ∷ 1 ∷ 2 ∷ 1 ∷ 0 ∷ []
+
+abbrev new : List ℕ
+new = 1 ∷ 9 ∷ 1 ∷ 7 ∷ 2 ∷ 0 ∷ 1 ∷ 1 ∷ 0 ∷ []
+
+abbrev pair : Problem
+pair = between old new
+
+abbrev empty : List ℕ
+empty = 0 ∷ []
+
+-- one part of kind 7; two of kind 7; 7 and 9 linked by 1; 7 and 9 unlinked
+abbrev one : List ℕ
+one = 1 ∷ 7 ∷ 0 ∷ []
+
+abbrev two : List ℕ
+two = 1 ∷ 7 ∷ 1 ∷ 7 ∷ 0 ∷ []
+
+abbrev linked : List ℕ
+linked = 1 ∷ 7 ∷ 1 ∷ 9 ∷ 2 ∷ 0 ∷ 1 ∷ 1 ∷ 0 ∷ []
+
+abbrev unlinked : List ℕ
+unlinked = 1 ∷ 7 ∷ 1 ∷ 9 ∷ 0 ∷ []
+
+-- just the words needed, each holding 9
+unfoldable pub workspace : List ℕ
+workspace = replicate wordsNeeded 9
+
+abbrev call : Problem → ℕ → ℕ → Called
+call P minimum budget = searchCall P (freshCheckpoint minimum) budget workspace
+
+-- budget 100 finishes the search: with so many steps, that incumbent and that ceiling, and all words 0
+abbrev Ends : Problem → ℕ → ℕ → Option (List ℕ) → ℕ → Type 0
+Ends P minimum steps held top =
+    call P minimum 100
+    ≡ record {
+      answer = accepted top;
+      checkpoint = checkpointOf minimum (record { steps = steps; path = []; finished = true; held = held });
+      workspace = replicate wordsNeeded 0;
+    }
+
+-- ---- from the walk to the call
+
+-- every entry is a byte
+bytes : List ℕ → Bool
+bytes [] = true
+bytes (b ∷ l) = leb b 255 && bytes l
+
+bytes-small : (l : List ℕ) → bytes l ≡ true → (i : ℕ) → getD l i 0 ≤ 255
+unfolding bytes
+bytes-small [] e i = omega arith
+bytes-small (b ∷ l) e zero = leb-true b 255 (and-eq-true-iff (leb b 255) (bytes l) .0 e .0)
+bytes-small (b ∷ l) e (suc i) = bytes-small l (and-eq-true-iff (leb b 255) (bytes l) .0 e .1) i
+
+read-sound : (l : List ℕ) → bytes l ≡ true → (n : ℕ) → readTables l .answer ≡ accepted n → Sound (read l)
+read-sound l small n e = rw e (reading-sound (replicate 64 9) (replicate 4096 9) l (bytes-small l small) n e)
+
+module _ (P : Problem) (sound : SoundProblem P) (minimum budget : ℕ) (fits : budget < 2 ^ 64) where
+  arrives : call P minimum budget ≡ arrive minimum (rulesOf P) workspace (after (rulesOf P) minimum budget)
+  unfolding workspace
+  arrives = fresh-call P sound minimum budget workspace (omega (arith, length-replicate {A = ℕ} wordsNeeded 9)) fits
+
+  answers : (top : ℕ) → ceiling (rulesOf P) minimum (after (rulesOf P) minimum budget) ≡ top → call P minimum budget .answer ≡ accepted top
+  answers top e = ap (λ (r : Called). r .answer) arrives ∙ ap accepted e
+
+  checkpoint-at : (s : State) → after (rulesOf P) minimum budget ≡ s → call P minimum budget .checkpoint ≡ checkpointOf minimum s
+  checkpoint-at s e = ap (λ (r : Called). r .checkpoint) arrives ∙ ap (checkpointOf minimum) e
+
+  clears : call P minimum budget .workspace ≡ replicate wordsNeeded 0
+  unfolding workspace
+  clears =
+      ap (λ (r : Called). r .workspace) arrives
+      ∙ ap (_++_ (replicate wordsNeeded 0)) (drop-of-length-le workspace {i = wordsNeeded} (omega (arith, length-replicate {A = ℕ} wordsNeeded 9)))
+      ∙ append-nil (replicate wordsNeeded 0)
+
+ends : (P : Problem) → SoundProblem P → (minimum steps : ℕ) (held : Option (List ℕ)) (top : ℕ)
+    → after (rulesOf P) minimum 100 ≡ record { steps = steps; path = []; finished = true; held = held }
+    → ceiling (rulesOf P) minimum (after (rulesOf P) minimum 100) ≡ top → Ends P minimum steps held top
+ends P sound minimum steps held top walk fence = λ i. record {
+  answer = answers P sound minimum 100 (lit< tt) top fence i;
+  checkpoint = checkpoint-at P sound minimum 100 (lit< tt) _ walk i;
+  workspace = clears P sound minimum 100 (lit< tt) i;
+}
+
+-- what is read from bytes without a fault is a sound problem
+between-sound : (l k : List ℕ) → bytes l ≡ true → bytes k ≡ true → (n m : ℕ) → readTables l .answer ≡ accepted n → readTables k .answer ≡ accepted m
+    → SoundProblem (between l k)
+between-sound l k sl sk n m el ek = record { old-sound = read-sound l sl n el; new-sound = read-sound k sk m ek }
+
+pair-sound : SoundProblem pair
+unfolding reading readFrom judge bytes
+pair-sound = between-sound old new refl refl 3 2 refl refl
+
+empty-sound : SoundProblem (between empty empty)
+unfolding reading readFrom judge bytes
+empty-sound = between-sound empty empty refl refl 0 0 refl refl
+
+one-sound : SoundProblem (between one two)
+unfolding reading readFrom judge bytes
+one-sound = between-sound one two refl refl 1 2 refl refl
+
+linked-sound : SoundProblem (between linked unlinked)
+unfolding reading readFrom judge bytes
+linked-sound = between-sound linked unlinked refl refl 2 2 refl refl
+
+-- ---- the rows
+
+-- 01's marked examples, row by row.
+pub marked-examples :
+    -- P, floor 1: 1 0 255, 6 steps, fence 3
+    Ends pair 1 6 (some (1 ∷ 0 ∷ 255 ∷ [])) 3
+    -- P, floor 1, allowance 3: nothing held, fence 3
+    × ((heldIn pair (call pair 1 3 .checkpoint) ≡ none) × (call pair 1 3 .answer ≡ accepted 3))
+    -- P, floor 1, allowance 4: size 2, unfinished, fence 3
+    × ((heldIn pair (call pair 1 4 .checkpoint) ≡ some (1 ∷ 0 ∷ 255 ∷ [])) × (size (1 ∷ 0 ∷ 255 ∷ []) ≡ 2)
+    × (call pair 1 4 .checkpoint .finished ≡ false) × (call pair 1 4 .answer ≡ accepted 3))
+    -- P, floor 1, allowance 0: fence 4
+    × (call pair 1 0 .answer ≡ accepted 4)
+    -- P, floor 3: none, 3 steps, fence 3
+    × Ends pair 3 3 none 3
+    -- P, floor 255: none, 1 step, fence 255
+    × Ends pair 255 1 none 255
+    -- both empty, floor 0: size 0, 1 step, fence 1
+    × Ends (between empty empty) 0 1 (some []) 1
+    -- both empty, floor 1: none, 1 step, fence 1
+    × Ends (between empty empty) 1 1 none 1
+    -- one part of kind 7 against two of kind 7, unlinked, floor 0: 0, 4 steps, fence 2
+    × Ends (between one two) 0 4 (some (0 ∷ [])) 2
+    -- 7, 9 linked by 1 against 7, 9 unlinked, floor 0: 0 255, 4 steps, fence 2
+    × Ends (between linked unlinked) 0 4 (some (0 ∷ 255 ∷ [])) 2
+    -- bytes 0: empty chart
+    × (readTables (0 ∷ []) ≡ record { answer = accepted 0; labels = replicate 64 0; edges = replicate 4096 0 })
+    -- no bytes: 1 at 0
+    × (readTables [] ≡ refuseAt 1 0)
+    -- 1 7 2 0 1 1 0: 5 at 2
+    × (readTables (1 ∷ 7 ∷ 2 ∷ 0 ∷ 1 ∷ 1 ∷ 0 ∷ []) ≡ refuseAt 5 2)
+    -- 1 7 2 0 0 1 0: 6 at 2
+    × (readTables (1 ∷ 7 ∷ 2 ∷ 0 ∷ 0 ∷ 1 ∷ 0 ∷ []) ≡ refuseAt 6 2)
+unfolding reading readFrom judge allBelow sumBelow runBelow allowed consistent mappedFrom candidate candidates upperBound choices children choicesAfter laterSiblings openNodes visitPath visit after topBound ceiling checkpointOf
+marked-examples = (
+  ends pair pair-sound 1 6 (some (1 ∷ 0 ∷ 255 ∷ [])) 3 refl refl,
+  (ap (heldIn pair) (checkpoint-at pair pair-sound 1 3 (lit< tt) _ refl), answers pair pair-sound 1 3 (lit< tt) 3 refl),
+  (
+    ap (heldIn pair) (checkpoint-at pair pair-sound 1 4 (lit< tt) _ refl),
+    refl,
+    ap (λ (c : Checkpoint). c .finished) (checkpoint-at pair pair-sound 1 4 (lit< tt) _ refl),
+    answers pair pair-sound 1 4 (lit< tt) 3 refl,
+  ),
+  answers pair pair-sound 1 0 (lit< tt) 4 refl,
+  ends pair pair-sound 3 3 none 3 refl refl,
+  ends pair pair-sound 255 1 none 255 refl refl,
+  ends (between empty empty) empty-sound 0 1 (some []) 1 refl refl,
+  ends (between empty empty) empty-sound 1 1 none 1 refl refl,
+  ends (between one two) one-sound 0 4 (some (0 ∷ [])) 2 refl refl,
+  ends (between linked unlinked) linked-sound 0 4 (some (0 ∷ 255 ∷ [])) 2 refl refl,
+  refl,
+  refl,
+  refl,
+  refl,
+)

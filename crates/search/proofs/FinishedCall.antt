@@ -1,0 +1,66 @@
+-- "A finished search takes any allowance and is unchanged" (01, "Bookmark and calls"), and allowance 0 changes no checkpoint.
+use mathlib.Core.Path.{_≡_, refl, ap, _∙_}
+use mathlib.Core.Bool.{Bool, true, cond, _||_}
+use mathlib.Core.List.{List, _++_}
+use Prim.Native.Nat.{ℕ, zero, suc, _+_, _≤_}
+use native.Mathlib.Omega.{arith}
+use lib.ListN.{length, drop, replicate}
+use borrow.Author.Tests.{le-leb}
+use Rattle.graph.specs.Answers.{Answer, passed, accepted}
+use Rattle.mapping.specs.Problem.{Problem, SoundProblem}
+use Rattle.mapping.proofs.ProblemPasses.{problem-passes}
+use Rattle.search_tree.specs.Rules.{Rules, rulesOf}
+use Rattle.search_tree.specs.Walk.{State, cutoff, visit}
+use Rattle.search_tree.specs.Ceiling.{ceiling}
+use Rattle.search_tree.proofs.Steps.{visit-finished}
+use Rattle.search.specs.declared.Checkpoint.{Checkpoint}
+use Rattle.search.specs.Checkpoints.{checkpointOf, stateOf, InShape}
+use Rattle.search.specs.Call.{Called, visits, wordsNeeded, arrive, advance, onSound, searchCall}
+use Rattle.search.specs.ThirdProperty.{heldIn}
+use Rattle.search.proofs.ShapeTest.{shape-test}
+use Rattle.search.proofs.CheckpointState.{checkpoint-of-state}
+
+-- Visits leave a finished search as it is.
+pub visits-finished : (R : Rules) (minimum k : ℕ) (s : State) → s .finished ≡ true → visits R minimum k s ≡ s
+unfolding visits
+visits-finished R minimum zero s end = refl
+visits-finished R minimum (suc k) s end = ap (visit R minimum) (visits-finished R minimum k s end) ∙ visit-finished R minimum s end
+
+-- a finished state's ceiling is its cutoff
+ceiling-finished : (R : Rules) (minimum : ℕ) (s : State) → s .finished ≡ true → ceiling R minimum s ≡ cutoff minimum (s .held)
+unfolding ceiling
+ceiling-finished R minimum s end = rw end
+
+-- what a call does once all tests are passed
+past-tests : (a : Answer) (shape enough finished fits : Bool) (step full few off : Called) (refusal : ℕ → Called)
+    → a ≡ passed → shape ≡ true → enough ≡ true → finished ≡ true
+    → onSound a (cond shape (cond enough (cond (finished || fits) step full) few) off) refusal ≡ step
+past-tests a shape enough finished fits step full few off refusal p q r e = rw (p, q, r, e)
+
+module _ (P : Problem) (sound : SoundProblem P) (c : Checkpoint) (path-long : length (c .path) ≡ 64) (incumbent-long : length (c .incumbent) ≡ 64)
+    (shape : InShape P c) where
+  back : checkpointOf (c .minimum) (stateOf (P .old .order) c) ≡ c
+  back = checkpoint-of-state P c (omega (arith, sound .old-sound .order-max)) path-long incumbent-long shape
+
+  -- Budget 0 makes no visit: the checkpoint stays.
+  pub no-visit : (workspace : List ℕ) → advance P c 0 workspace .checkpoint ≡ c
+  unfolding advance visits
+  no-visit workspace = back
+
+  -- A finished search accepts any budget, answers with its cutoff and leaves its checkpoint as it is.
+  pub finished-call : c .finished ≡ true → (budget : ℕ) (workspace : List ℕ) → wordsNeeded ≤ length workspace
+      → searchCall P c budget workspace
+      ≡ record {
+        answer = accepted (cutoff (c .minimum) (heldIn P c));
+        checkpoint = c;
+        workspace = replicate wordsNeeded 0 ++ drop wordsNeeded workspace;
+      }
+  unfolding searchCall advance stateOf
+  finished-call end budget workspace enough =
+      past-tests _ _ _ (c .finished) _ _ _ _ _ _ (problem-passes P sound) (shape-test P sound c .1 shape) (le-leb _ _ enough) end
+      ∙ ap (arrive (c .minimum) (rulesOf P) workspace) (visits-finished (rulesOf P) (c .minimum) budget (stateOf (P .old .order) c) end)
+      ∙ (λ i. record {
+        answer = accepted (ceiling-finished (rulesOf P) (c .minimum) (stateOf (P .old .order) c) end i);
+        checkpoint = back i;
+        workspace = replicate wordsNeeded 0 ++ drop wordsNeeded workspace;
+      })

@@ -1,0 +1,111 @@
+-- The loop over a path's levels, on plain values: a level's later siblings are counted, or passed over where they cannot raise the maximum.
+use mathlib.Core.Path.{_≡_, sym, ap, _∙_}
+use mathlib.Core.Logic.{_≢_}
+use mathlib.Core.List.{List}
+use Prim.Native.Nat.{ℕ, _+_, _-_, _≤_, _<_, max}
+use native.Mathlib.Nat.{le-refl}
+use native.Mathlib.Omega.{arith}
+use lib.ListN.{length, getD, take, drop, take-append-drop}
+use lib.Seq.{length-take-le}
+use Rattle.mapping.specs.Problem.{Problem}
+use Rattle.mapping.specs.Common.{unmapped, size}
+use Rattle.search_tree.specs.Rules.{rulesOf}
+use Rattle.search_tree.specs.Node.{upperBound, laterSiblings}
+use Rattle.search_tree.specs.Ceiling.{topBound}
+use Rattle.search_tree.proofs.OpenNodes.{laterSiblings-append}
+use Rattle.search.specs.Words.{Words, openRows}
+use Rattle.search.specs.Walking.{Setting, AtNode, InBounds}
+use Rattle.search.proofs.NodeWords.{size-mapped}
+use Rattle.search.proofs.RowTop.{levelTop}
+use Rattle.search.proofs.WordLevels.{words-shorter, size-left-out}
+use Rattle.search.proofs.WordBounds.{prefix-bound}
+use Rattle.search.proofs.WordCeiling.{topBound-level, topBound-skip, topBound-same, topBound-root}
+
+-- one more than the greatest bound of the later siblings of a path's first k entries, and of fewer
+abbrev pub laterTop : Problem → List ℕ → ℕ → ℕ
+laterTop P path k = topBound (rulesOf P) (laterSiblings (rulesOf P) path k)
+
+-- The invariant: the greatest so far and the levels up to k make up all levels.
+pub record LevelsHead (n : ℕ) (edges masks path ws : List ℕ) (depth pairs least k left top : ℕ) : Type 0 where
+  pub k-max : k ≤ depth
+  pub left-is : left ≡ size (take k path)
+  pub tops : (P : Problem) → Setting P n edges masks → AtNode P path depth pairs ws → max least (laterTop P path depth) ≡ max top (laterTop P path k)
+
+module _ {n : ℕ} {edges masks path ws : List ℕ} {depth pairs : ℕ} (bounds : InBounds n edges masks path depth pairs ws) where
+  inside : depth ≤ length path
+  inside = omega (arith, bounds .path-length, bounds .order-max, bounds .depth-max)
+
+  -- A path's first entries are in bounds too, over a workspace as long.
+  pub bounds-shorter : {k left : ℕ} {ws′ : List ℕ} → k ≤ depth → left ≡ size (take k path) → length ws′ ≡ length ws
+      → InBounds n edges masks path k left ws′
+  bounds-shorter h e same = record {
+    order-max = bounds .order-max;
+    edges-length = bounds .edges-length;
+    masks-length = bounds .masks-length;
+    path-length = bounds .path-length;
+    room = omega (arith, bounds .room);
+    depth-max = omega (arith, bounds .depth-max);
+    pairs-are = e;
+    entry = λ i l. bounds .entry i (omega arith);
+  }
+
+  -- Before the first level, all are left.
+  pub levels-first : (least : ℕ) → LevelsHead n edges masks path ws depth pairs least depth pairs least
+  levels-first least = record { k-max = le-refl depth; left-is = bounds .pairs-are; tops = λ P setting node. omega arith }
+
+  module _ {least k left top : ℕ} (row : ℕ) (next : k ≡ row + 1) (before : LevelsHead n edges masks path ws depth pairs least k left top) where
+    head : LevelsHead n edges masks path ws depth pairs least (row + 1) left top
+    head = rw next at before
+
+    row-inside : row < length path
+    row-inside = omega (arith, inside, head .k-max)
+
+    -- A level that leaves its row out adds nothing.
+    pub level-left-out : getD path row 0 ≡ unmapped → LevelsHead n edges masks path ws depth pairs least row left top
+    level-left-out e = record {
+      k-max = omega (arith, head .k-max);
+      left-is = head .left-is ∙ size-left-out path row e;
+      tops = λ P setting node. omega (arith, head .tops P setting node, topBound-same P (setting .sound) path row e);
+    }
+
+    module _ (mapped : getD path row 0 ≢ unmapped) where
+      -- The level's node has one pair less.
+      pub level-pairs : left ≡ size (take row path) + 1
+      level-pairs = head .left-is ∙ size-mapped path row row-inside mapped
+
+      -- the words of the level's node
+      level-words : {P : Problem} → AtNode P path depth pairs ws → Words P path row ws
+      level-words node = words-shorter (omega (arith, head .k-max)) (node .words)
+
+      -- A level counts its later siblings,
+      pub level-counted : {above top′ : ℕ}
+          → ((P : Problem) → Setting P n edges masks → Words P path row ws → above ≡ levelTop (rulesOf P) (take row path) (getD path row 0))
+          → top′ ≡ max top above → LevelsHead n edges masks path ws depth pairs least row (left - 1) top′
+      level-counted {above} {top′} counts e = record {
+        k-max = omega (arith, head .k-max);
+        left-is = omega (arith, level-pairs);
+        tops = λ P setting node.
+            omega (arith, head .tops P setting node, topBound-level (rulesOf P) path row, counts P setting (level-words node));
+      }
+
+      -- and is passed over where its node's bound is not above the maximum so far.
+      pub level-skipped : left - 1 + 1 + openRows n row (left - 1) ws ≤ top → LevelsHead n edges masks path ws depth pairs least row (left - 1) top
+      level-skipped h = record {
+        k-max = omega (arith, head .k-max);
+        left-is = omega (arith, level-pairs);
+        tops = λ P setting node.
+            let left-is : left - 1 ≡ size (take row path) = omega (arith, level-pairs) in
+            let is : upperBound (rulesOf P) (take row path) ≡ left - 1 + openRows n row (left - 1) ws =
+            rw (left-is, ← setting .order-is) (prefix-bound P (setting .sound) (omega (arith, row-inside)) (level-words node)) in
+            let row-is : row < P .old .order = omega (arith, setting .order-is, head .k-max, bounds .depth-max) in
+            omega (arith, head .tops P setting node, topBound-skip (rulesOf P) path row top (omega (arith, row-inside)) row-is (omega arith));
+      }
+
+  -- At the root the maximum is that of all levels.
+  pub levels-all : {least k left top : ℕ} → k ≡ 0 → LevelsHead n edges masks path ws depth pairs least k left top
+      → (P : Problem) → Setting P n edges masks → AtNode P path depth pairs ws → top ≡ max least (laterTop P (take depth path) depth)
+  levels-all {least} {k} {left} {top} e head P setting node =
+      let R = rulesOf P in
+      let same = laterSiblings-append R (take depth path) (drop depth path) depth (omega (arith, length-take-le depth path inside)) in
+      let whole = ap (λ (l : List ℕ). laterSiblings R l depth) (take-append-drop depth path) in
+      omega (arith, head .tops P setting node, ap (laterTop P path) e, topBound-root R path, ap (topBound R) (sym whole ∙ same))

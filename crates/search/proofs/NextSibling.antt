@@ -1,0 +1,137 @@
+-- The nearest later sibling of a node or of an ancestor: rows left out are passed, and the last pair's word has the next choice.
+use mathlib.Core.Path.{_≡_, refl, sym, _∙_}
+use mathlib.Core.Logic.{_≢_, inl, inr, ⊎-elim}
+use mathlib.Core.Bool.{true, false, true≢false}
+use mathlib.Core.List.{List, _∷_}
+use Prim.Native.Nat.{ℕ, _+_, _-_, _*_, _%_, _≤_, _<_}
+use native.Mathlib.Nat.{le-refl}
+use native.Mathlib.Omega.{arith}
+use lib.ListN.{length, getD, take, drop, set, take-append-drop}
+use lib.Seq.{length-take-le, take-take, getD-take}
+use Rattle.bitset.specs.Least.{leastAbove}
+use Rattle.bitset.specs.declared.Least.the-variants.{Member, Empty}
+use Rattle.bitset.proofs.LeastBelow.{leastAbove-Member}
+use Rattle.mapping.specs.Problem.{Problem, SoundProblem}
+use Rattle.mapping.specs.Common.{unmapped, size}
+use Rattle.mapping.proofs.Size.{counted, counted-mapped, size-nil, size-max}
+use Rattle.search_tree.specs.Rules.{rulesOf}
+use Rattle.search_tree.specs.Node.{extend, laterSiblings}
+use Rattle.search_tree.proofs.Candidates.{candidate-value}
+use Rattle.search_tree.proofs.Children.{Choice}
+use Rattle.search_tree.proofs.OpenNodes.{laterSiblings-append}
+use Rattle.search_tree.proofs.Reached.{reached-root, reached-take}
+use Rattle.search.specs.Words.{Words}
+use Rattle.search.specs.Walking.{AtNode, Retreats}
+use Rattle.search.proofs.WordLevels.{take-extend, size-extend, size-left-out, words-shorter}
+use Rattle.search.proofs.WordChoices.{next-taken, siblings-taken, siblings-last, siblings-left-out, siblings-root}
+use Rattle.search.proofs.StoredRow.{stored-prefix, stored-node}
+
+-- The invariant: no row of the path from k up to depth is a pair, so none has a later sibling.
+pub record Passed (path : List ℕ) (depth pairs k : ℕ) : Type 0 where
+  pub within : k ≤ depth
+  pub pairs-are : pairs ≡ size (take k path)
+  pub siblings : (P : Problem) → SoundProblem P → laterSiblings (rulesOf P) path depth ≡ laterSiblings (rulesOf P) path k
+
+-- At first no row is passed.
+pub passed-none : (path : List ℕ) (depth pairs : ℕ) → pairs ≡ size (take depth path) → Passed path depth pairs depth
+passed-none path depth pairs e = record { within = le-refl depth; pairs-are = e; siblings = λ P sound. refl }
+
+-- A row that is left out is passed.
+pub passed-more : {path : List ℕ} {depth pairs k row : ℕ} → Passed path depth pairs k → k ≡ row + 1 → getD path row 0 ≡ unmapped
+    → Passed path depth pairs row
+passed-more {path} {depth} {pairs} {k} {row} passed top e = record {
+  within = omega (arith, passed .within);
+  pairs-are = passed .pairs-are ∙ rw top (size-left-out path row e);
+  siblings = λ P sound. passed .siblings P sound ∙ rw top (siblings-left-out P sound path row e);
+}
+
+-- A row that is a pair adds one to the pairs before it.
+pub pairs-before : {path : List ℕ} {depth pairs k row : ℕ} → Passed path depth pairs k → k ≡ row + 1 → row < length path
+    → getD path row 0 ≢ unmapped → (pairs ≡ size (take row path) + 1) × (size (take row path) ≤ row)
+pairs-before {path} {depth} {pairs} {k} {row} passed top inside mapped =
+    let longer : size (take k path) ≡ size (extend (take row path) (getD path row 0)) = rw (top, take-extend path row inside) in
+    let one = counted-mapped (getD path row 0) mapped in
+    let few = size-max (take row path) in
+    let short = length-take-le row path (omega arith) in
+    omega (arith, size-extend (take row path) (getD path row 0), passed .pairs-are)
+
+module _ {P : Problem} (sound : SoundProblem P) {path ws : List ℕ} {depth pairs : ℕ} (node : AtNode P path depth pairs ws) where
+  own-inside : depth ≤ length path
+  own-inside = omega (arith, node .path-length, node .depth-max, sound .old-sound .order-max)
+
+  -- the later siblings depend on the path's first entries alone
+  own-siblings : laterSiblings (rulesOf P) (take depth path) depth ≡ laterSiblings (rulesOf P) path depth
+  own-siblings =
+      let short = length-take-le depth path own-inside in
+      sym (rw take-append-drop at (laterSiblings-append (rulesOf P) (take depth path) (drop depth path) depth (omega arith)))
+
+  -- All rows are passed: there is no later sibling.
+  pub retreat-ends : Passed path depth pairs 0 → Retreats P path depth ws (record { depth = 0; pairs = 0; finished = true }) path
+  retreat-ends passed = record {
+    none-left = λ _. (own-siblings ∙ passed .siblings P sound ∙ siblings-root (rulesOf P) path, refl);
+    sibling = λ e. absurd (true≢false e);
+    node = record {
+      path-length = node .path-length;
+      room = node .room;
+      reached = reached-root (rulesOf P);
+      depth-max = omega arith;
+      pairs-are = sym size-nil;
+      words = words-shorter (omega arith) (node .words);
+    };
+  }
+
+  module _ {k : ℕ} (row : ℕ) (passed : Passed path depth pairs k) (top : k ≡ row + 1) (mapped : getD path row 0 ≢ unmapped) where
+    row-below : row < depth
+    row-below = omega (arith, passed .within)
+
+    row-inside : row < length path
+    row-inside = omega (arith, row-below, own-inside)
+
+    row-inner : row < P .old .order
+    row-inner = omega (arith, row-below, node .depth-max)
+
+    -- the row's value is a new vertex
+    row-value : getD path row 0 < unmapped
+    row-value =
+        let max = sound .new-sound .order-max in
+        ⊎-elim (λ u. absurd (mapped u))
+        (λ c. omega (arith, candidate-value (rulesOf P) (take row (take depth path)) row (getD path row 0) c))
+        (rw (getD-take depth path row 0 row-below) at (node .reached .entry row (omega (arith, row-below, length-take-le depth path own-inside))))
+
+    row-words : Words P path row ws
+    row-words = words-shorter (omega (arith, row-below)) (node .words)
+
+    -- where v is the next choice of the row, the path with v stored is the nearest later sibling
+    retreats : {count v : ℕ} {rest : List (List ℕ)} → Choice (rulesOf P) (take row path) v → count ≡ size (take row path) + counted v
+        → laterSiblings (rulesOf P) path (row + 1) ≡ extend (take row path) v ∷ rest
+        → Retreats P path depth ws (record { depth = k; pairs = count; finished = false }) (set path row v)
+    retreats {count} {v} {rest} choice more next =
+        let reached = rw (take-take row depth path (omega (arith, row-below))) at (reached-take (rulesOf P) (node .reached) row) in
+        record {
+          none-left = λ e. absurd (true≢false (sym e));
+          sibling = λ _. (rest, rw (own-siblings, passed .siblings P sound, top, stored-prefix path row v row-inside) next);
+          node = rw top (stored-node (node .path-length) (node .room) row-inside row-inner reached row-words choice more);
+        }
+
+    -- The least member above the row's value is stored: the sibling takes it.
+    pub sibling-taken : {v : ℕ} → leastAbove (getD ws (64 * (pairs - 1) + row) 0) (getD path row 0) ≡ Member v
+        → Retreats P path depth ws (record { depth = k; pairs = pairs; finished = false }) (set path row (v % 256))
+    sibling-taken {v} e =
+        let before = pairs-before passed top row-inside mapped in
+        let level : pairs - 1 ≡ size (take row path) = omega arith in
+        let found : leastAbove (getD ws (64 * size (take row path) + row) 0) (getD path row 0) ≡ Member v = rw level at e in
+        let small = leastAbove-Member _ _ e .below in
+        let stored : v % 256 ≡ v = omega arith in
+        let one = counted-mapped v (λ u. omega arith) in
+        let next = next-taken P sound (omega (arith, row-inside)) row-inner row-words (getD path row 0) {v = v} found in
+        rw stored (retreats (inr (rw (length-take-le row path (omega (arith, row-inside))) (next .isCandidate))) (omega arith)
+        (siblings-taken P sound (omega (arith, row-inside)) row-inner row-words found))
+
+    -- No member is above the row's value: the sibling leaves the row out.
+    pub sibling-left-out : leastAbove (getD ws (64 * (pairs - 1) + row) 0) (getD path row 0) ≡ Empty
+        → Retreats P path depth ws (record { depth = k; pairs = pairs - 1; finished = false }) (set path row unmapped)
+    sibling-left-out e =
+        let before = pairs-before passed top row-inside mapped in
+        let level : pairs - 1 ≡ size (take row path) = omega arith in
+        let found : leastAbove (getD ws (64 * size (take row path) + row) 0) (getD path row 0) ≡ Empty = rw level at e in
+        retreats (inl refl) (omega arith) (siblings-last P sound (omega (arith, row-inside)) row-inner row-words row-value found)

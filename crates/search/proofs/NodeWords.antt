@@ -1,0 +1,117 @@
+-- The words of a node from those of its parent, and the node's upper bound: what the code adds to the workspace as it goes down a path.
+use mathlib.Core.Path.{_≡_, refl, sym, ap, _∙_}
+use mathlib.Core.Logic.{⊎-elim}
+use mathlib.Core.Bool.{Bool, true, false, cond, not, _&&_}
+use mathlib.Core.List.{List}
+use Prim.Native.Nat.{ℕ, _+_, _-_, _*_, _≤_, _<_}
+use native.Mathlib.Nat.{one-mul}
+use native.Mathlib.Omega.{arith}
+use lib.Dec.{leb, eqb}
+use lib.ListN.{length, getD, take, length-take}
+use lib.Seq.{length-take-le, getD-take}
+use Rattle.graph.proofs.Below.{sumBelow-le, sumBelow-same}
+use Rattle.mapping.specs.Problem.{Problem}
+use Rattle.mapping.specs.Common.{unmapped, size}
+use Rattle.mapping.proofs.Size.{size-max, counted-mapped}
+use Rattle.search_tree.specs.Rules.{rulesOf}
+use Rattle.search_tree.specs.Node.{upperBound}
+use Rattle.search_tree.specs.Trees.{Reached}
+use Rattle.search_tree.proofs.Candidates.{candidate-value}
+use Rattle.search.specs.Words.{Refined, Words, openRows}
+use Rattle.search.specs.Walking.{Setting, AtNode, InBounds}
+use Rattle.search.proofs.WordLevels.{size-extend, take-extend, words-shorter, words-left-out, words-refined}
+use Rattle.search.proofs.WordBounds.{prefix-bound}
+
+-- No more rows are open than there are.
+pub openRows-max : (n depth pairs : ℕ) (ws : List ℕ) → openRows n depth pairs ws ≤ n
+openRows-max n depth pairs ws =
+    omega (arith, sumBelow-le n _ (λ k. 1) (λ k h. bit (leb depth k && not (eqb (getD ws (64 * pairs + k) 0) 0))), sumBelow-same n 1, one-mul n)
+  where
+    bit : (b : Bool) → cond b 1 0 ≤ 1
+    bit true = omega arith
+    bit false = omega arith
+
+-- A path's first entries have no more pairs than entries.
+pub size-take-max : (path : List ℕ) (k : ℕ) → size (take k path) ≤ k
+size-take-max path k = omega (arith, size-max (take k path), length-take k path)
+
+-- A row that is not left out adds a pair.
+pub size-mapped : (path : List ℕ) (row : ℕ) → row < length path → (getD path row 0 ≡ unmapped → ⊥)
+    → size (take (row + 1) path) ≡ size (take row path) + 1
+size-mapped path row h mapped =
+    rw (take-extend path row h) (omega (arith, size-extend (take row path) (getD path row 0), counted-mapped (getD path row 0) mapped))
+
+module _ {n : ℕ} {edges masks path : List ℕ} {depth pairs : ℕ} {ws : List ℕ} (bounds : InBounds n edges masks path depth pairs ws) where
+  -- A node has no more pairs than rows.
+  pub pairs-max : pairs ≤ depth
+  pairs-max = omega (arith, bounds .pairs-are, size-take-max path depth)
+
+  -- A row that is not left out took a vertex below 64.
+  pub entry-max : (row : ℕ) → row < depth → (getD path row 0 ≡ unmapped → ⊥) → getD path row 0 < 64
+  entry-max row h mapped = ⊎-elim (λ out. absurd (mapped out)) (λ low. low) (bounds .entry row h)
+
+  -- Where the last row is not left out, its parent has one pair less.
+  pub pairs-before : 0 < depth → (getD path (depth - 1) 0 ≡ unmapped → ⊥) → pairs ≡ size (take (depth - 1) path) + 1
+  pairs-before h mapped =
+      let deeper : depth - 1 + 1 ≡ depth = omega arith in
+      let inside : depth - 1 < length path = omega (arith, bounds .depth-max, bounds .order-max, bounds .path-length) in
+      bounds .pairs-are ∙ (rw deeper at (size-mapped path (depth - 1) inside mapped))
+
+module _ {P : Problem} {n : ℕ} {edges masks : List ℕ} (setting : Setting P n edges masks) (path : List ℕ) (depth : ℕ) (long : length path ≡ 64)
+    (within : depth ≤ P .old .order) (reached : Reached (rulesOf P) (take depth path)) where
+  -- a row of the path that is not left out took a new vertex
+  taken-value : (row : ℕ) → row < depth → (getD path row 0 ≡ unmapped → ⊥) → getD path row 0 < P .new .order
+  taken-value row h mapped =
+      let max = setting .sound .old-sound .order-max in
+      let inside : length (take depth path) ≡ depth = length-take-le depth path (omega arith) in
+      let entry = reached .entry row (omega arith) in
+      let same : getD (take depth path) row 0 ≡ getD path row 0 = getD-take depth path row 0 h in
+      ⊎-elim (λ out. absurd (mapped (sym same ∙ out)))
+      (λ c. rw same at (candidate-value (rulesOf P) (take row (take depth path)) row (getD (take depth path) row 0) c))
+      entry
+
+  -- The words of the path's next prefix, once its last row, which took a new vertex, is refined.
+  pub words-taken : {ws ws′ : List ℕ} (row : ℕ) → row < depth → (getD path row 0 ≡ unmapped → ⊥)
+      → Refined n edges masks row (size (take row path)) (getD path row 0) ws ws′ → Words P path row ws → Words P path (row + 1) ws′
+  words-taken row h mapped refined words =
+      let max = setting .sound .old-sound .order-max in
+      words-refined P (setting .sound) (omega arith) refl (taken-value row h mapped) (setting .masks-are)
+      (rw (setting .order-is, setting .edges-is) refined) words
+
+module _ {P : Problem} {n : ℕ} {edges masks path ws : List ℕ} {depth pairs : ℕ} (setting : Setting P n edges masks)
+    (node : AtNode P path depth pairs ws) where
+  -- The upper bound of a node, from its words.
+  pub node-bound : {ws′ : List ℕ} → Words P path depth ws′ → pairs + openRows n depth pairs ws′ ≡ upperBound (rulesOf P) (take depth path)
+  node-bound words =
+      let max = setting .sound .old-sound .order-max in
+      rw (node .pairs-are, ← setting .order-is) (sym (prefix-bound P (setting .sound) (omega (arith, node .depth-max, node .path-length)) words))
+
+  -- The root's words are those of its ancestors: it has none.
+  pub node-root : depth ≡ 0 → Words P path depth ws
+  node-root e = words-shorter (omega arith) (node .words)
+
+  -- Where the last row is left out, the node's words are its parent's.
+  pub node-left-out : 0 < depth → getD path (depth - 1) 0 ≡ unmapped → Words P path depth ws
+  node-left-out h out =
+      let deeper : depth - 1 + 1 ≡ depth = omega arith in
+      rw deeper at (words-left-out P out (node .words))
+
+  -- Where the last row took a new vertex, the node's words are its parent's, refined.
+  pub node-taken : {ws′ : List ℕ} → 0 < depth → (getD path (depth - 1) 0 ≡ unmapped → ⊥)
+      → Refined n edges masks (depth - 1) (pairs - 1) (getD path (depth - 1) 0) ws ws′ → Words P path depth ws′
+  node-taken {ws′} h mapped refined =
+      let max = setting .sound .old-sound .order-max in
+      let inside : depth - 1 < length path = omega (arith, node .depth-max, node .path-length) in
+      let deeper : depth - 1 + 1 ≡ depth = omega arith in
+      let one : size (take depth path) ≡ size (take (depth - 1) path) + 1 = rw deeper at (size-mapped path (depth - 1) inside mapped) in
+      let before : pairs - 1 ≡ size (take (depth - 1) path) = omega (arith, node .pairs-are) in
+      rw deeper at (words-taken setting path depth (node .path-length) (node .depth-max) (node .reached) (depth - 1) (omega arith) mapped
+      (rw before at refined) (node .words))
+
+-- Whatever the problem: where the workspace has a node's words, its pairs and the rows counted in them are its upper bound.
+pub bound-of-count : {n : ℕ} {edges masks path ws ws′ : List ℕ} {depth pairs : ℕ} (count : ℕ) → count ≡ openRows n depth pairs ws′
+    → ((P : Problem) → Setting P n edges masks → AtNode P path depth pairs ws → Words P path depth ws′)
+    → ((P : Problem) → Setting P n edges masks → AtNode P path depth pairs ws → pairs + count ≡ upperBound (rulesOf P) (take depth path))
+    × ((P : Problem) → Setting P n edges masks → AtNode P path depth pairs ws → Words P path depth ws′)
+bound-of-count {pairs = pairs} count e words =
+    (λ P setting node. ap (λ (k : ℕ). pairs + k) e ∙ node-bound setting node (words P setting node), words)

@@ -1,0 +1,99 @@
+-- Upper bounds read off the words: a row has a candidate exactly where its word is not 0.
+use mathlib.Core.Path.{_≡_, refl, sym, ap, _∙_}
+use mathlib.Core.Bool.{Bool, true, false, cond, not, _&&_, true≢false}
+use mathlib.Core.List.{List, []}
+use Prim.Native.Nat.{ℕ, suc, _+_, _*_, _≤_, _<_}
+use native.Mathlib.Nat.{le-refl}
+use native.Mathlib.Omega.{arith}
+use lib.Dec.{leb, eqb}
+use lib.ListN.{length, getD, take}
+use lib.Seq.{length-take-le, take-length}
+use borrow.Author.Tests.{leb-true, eq-eqb, ne-eqb}
+use Rattle.bitset.specs.Members.{member}
+use Rattle.bitset.proofs.Membership.{member-zero}
+use Rattle.bitset.proofs.SetOf.{setOf-lt, no-member}
+use Rattle.graph.specs.Below.{sumBelow}
+use Rattle.graph.specs.Graph.{graph}
+use Rattle.mapping.specs.Problem.{Problem, SoundProblem}
+use Rattle.mapping.specs.Common.{unmapped, size}
+use Rattle.mapping.proofs.Size.{counted-mapped}
+use Rattle.search_tree.specs.Rules.{rulesOf}
+use Rattle.search_tree.specs.Node.{candidate, candidates, nonEmpty, upperBound, extend}
+use Rattle.search_tree.proofs.Sums.{sumBelow-agree}
+use Rattle.search_tree.proofs.Candidates.{length-extend, nonEmpty-candidates}
+use Rattle.search.specs.Words.{wordOf, Masks, metWord, openRows, meetRows, Words}
+use Rattle.search.proofs.WordLevels.{size-extend, word-left-out, member-word, met-word}
+
+module _ (P : Problem) (sound : SoundProblem P) where
+  -- A row has a candidate exactly where its word is not 0.
+  pub open-word : (path : List ℕ) (r : ℕ) → nonEmpty (candidates (rulesOf P) path r) ≡ not (eqb (wordOf P path r) 0)
+  open-word path r = go (nonEmpty (candidates (rulesOf P) path r)) refl
+    where
+      go : (b : Bool) → nonEmpty (candidates (rulesOf P) path r) ≡ b → b ≡ not (eqb (wordOf P path r) 0)
+      go true e =
+          let some = nonEmpty-candidates (rulesOf P) path r .0 e in
+          let inside = member-word P sound path r (some .0) ∙ some .1 in
+          let full : wordOf P path r ≡ 0 → ⊥ = λ z. true≢false (sym inside ∙ ap (λ (s : ℕ). member s (some .0)) z ∙ member-zero (some .0)) in
+          rw (ne-eqb (wordOf P path r) 0 full)
+      go false e = rw (eq-eqb (wordOf P path r) 0 empty)
+        where
+          none : (v : ℕ) (b : Bool) → candidate (rulesOf P) path r v ≡ b → b ≡ false
+          none v true c = sym (nonEmpty-candidates (rulesOf P) path r .1 (v, c)) ∙ e
+          none v false c = refl
+
+          empty : wordOf P path r ≡ 0
+          empty = no-member 64 (setOf-lt 64 (candidate (rulesOf P) path r)) .1 (λ v h. member-word P sound path r v ∙ none v _ refl)
+
+  -- The upper bound counts the undecided rows whose word is not 0.
+  pub bound-of-words : (path : List ℕ) (word : ℕ → ℕ) → ((r : ℕ) → length path ≤ r → r < P .old .order → word r ≡ wordOf P path r)
+      → upperBound (rulesOf P) path ≡ size path + sumBelow (P .old .order) (λ r. cond (leb (length path) r && not (eqb (word r) 0)) 1 0)
+  unfolding upperBound
+  bound-of-words path word known =
+      ap (λ (n : ℕ). size path + n)
+      (sumBelow-agree (P .old .order) _ _ (λ r h. ap (λ (b : Bool). cond b 1 0) (same r h (leb (length path) r) refl)))
+    where
+      same : (r : ℕ) → r < P .old .order → (b : Bool) → leb (length path) r ≡ b
+          → (b && nonEmpty (candidates (rulesOf P) path r)) ≡ (b && not (eqb (word r) 0))
+      same r h true e = rw (open-word path r, known r (leb-true (length path) r e) h)
+      same r h false e = refl
+
+  module _ {path ws : List ℕ} {row : ℕ} (inside : row ≤ length path) (words : Words P path row ws) where
+    depth : length (take row path) ≡ row
+    depth = length-take-le row path inside
+
+    -- the word of row r at the first `row` entries
+    known : (r : ℕ) → row ≤ r → r < P .old .order → getD ws (64 * size (take row path) + r) 0 ≡ wordOf P (take row path) r
+    known = words .word row (le-refl row)
+
+    -- The upper bound of a path's first entries, from their words.
+    pub prefix-bound : upperBound (rulesOf P) (take row path) ≡ size (take row path) + openRows (P .old .order) row (size (take row path)) ws
+    prefix-bound =
+        rw depth at (bound-of-words (take row path) (λ r. getD ws (64 * size (take row path) + r) 0) (λ r l. known r (omega (arith, depth))))
+
+    -- The upper bound where the next row is left out, from the same words.
+    pub left-out-bound : upperBound (rulesOf P) (extend (take row path) unmapped)
+        ≡ size (take row path) + openRows (P .old .order) (row + 1) (size (take row path)) ws
+    left-out-bound =
+        let q = take row path in
+        let next : length (extend q unmapped) ≡ row + 1 = omega (arith, depth, length-extend q unmapped) in
+        let pairs : size (extend q unmapped) ≡ size q = omega (arith, size-extend q unmapped) in
+        rw (next, pairs) at (bound-of-words (extend q unmapped) (λ r. getD ws (64 * size q + r) 0)
+        (λ r l b. known r (omega arith) b ∙ sym (word-left-out P q r)))
+
+    -- The upper bound where the next row takes v, from the same words met with the masks of v.
+    pub taken-bound : {masks : List ℕ} → Masks (graph (P .new .order) [] (P .new .edges)) masks → (v : ℕ) → v < P .new .order
+        → upperBound (rulesOf P) (extend (take row path) v)
+        ≡ size (take row path) + 1 + meetRows (P .old .order) (P .old .edges) masks row (size (take row path)) v ws
+    taken-bound {masks} made v h =
+        let q = take row path in
+        let next : length (extend q v) ≡ suc row = omega (arith, depth, length-extend q v) in
+        let mapped = counted-mapped v (λ u. omega (arith, sound .new-sound .order-max)) in
+        let pairs : size (extend q v) ≡ size q + 1 = omega (arith, size-extend q v) in
+        let max = sound .old-sound .order-max in
+        rw (next, pairs) at (bound-of-words (extend q v) (metWord (P .old .edges) masks row (size q) v ws)
+        (λ r l b. rw depth at (met-word P sound made q (size q) v r ws (omega (arith, depth)) (omega arith) h (known r (omega arith) b))))
+
+  -- The upper bound of a path, from its words.
+  pub path-bound : {path ws : List ℕ} → Words P path (length path) ws
+      → upperBound (rulesOf P) path ≡ size path + openRows (P .old .order) (length path) (size path) ws
+  path-bound {path} words = rw take-length at (prefix-bound (le-refl (length path)) words)

@@ -1,0 +1,65 @@
+-- `search::shape::held_fits` meets its contract: the check of a mapping says what `heldFits` computes to (`ShapeByCheck`).
+-- Assumes nothing.
+use mathlib.Core.Path.{sym, ap, _∙_}
+use native.Mathlib.Omega.{arith}
+use lib.Seq.{length-take-le}
+use Rattle.mapping.specs.Answers.{mappingOutcome}
+use Rattle.search.specs.Checkpoints.{isAccepted}
+use borrow.Author.Tests.{not-true, not-false}
+use Rattle.search.proofs.ShapeByCheck.{held-accepted, held-refused, refused-answer}
+use borrow.Author.Needs.{needs}
+use Rattle.search.proofs.shape.held_fits.Statement.{statement}
+use Rattle.search.proofs.shape.held_fits.Tie as tie
+
+returns : tie.Need-returns
+returns c =
+    let k = c .before .before .before .before .before .args .checkpoint in
+    simp (not-true (k .holds) (c .if1 .taken))
+
+cast-minimum : tie.Need-cast-minimum
+cast-minimum c = search needs
+
+array-share-prefix-incumbent : tie.Need-array-share-prefix-incumbent
+array-share-prefix-incumbent c = search needs
+
+slice-aggregate-check-mapping : tie.Need-slice-aggregate-check-mapping
+slice-aggregate-check-mapping c =
+    let start = c .before .before .before .before .before .before .before .before in
+    sym (length-take-le _ _ (omega (arith, start .pre .0 .old-sound .order-max, start .pre .1)))
+
+check-mapping-requires : tie.Need-check-mapping-requires
+check-mapping-requires c κs = search needs
+
+enum-known-size : tie.Need-enum-known-size
+enum-known-size c = search needs
+
+returns-2 : tie.Need-returns-2
+returns-2 c =
+    let call = c .before .before .before in
+    let held = call .before .before .before .before in
+    let start = held .before .before .before .before .before in
+    let k = start .args .checkpoint in
+    sym (held-accepted _ (start .pre .0) k _ (not-false (k .holds) (held .if1 .left))
+    (sym (call .check-mapping .ensures) ∙ ap mappingOutcome (c .before .size .given .1)))
+
+returns-3 : tie.Need-returns-3
+returns-3 c =
+    let call = c .before in
+    let held = call .before .before .before .before in
+    let start = held .before .before .before .before .before in
+    let k = start .args .checkpoint in
+    sym (held-refused _ (start .pre .0) k (not-false (k .holds) (held .if1 .left))
+    (ap isAccepted (sym (call .check-mapping .ensures)) ∙ refused-answer (call .check-mapping .result) (c .match .keys2)))
+
+pub held-fits-spec : {M : Type 1} → statement M
+held-fits-spec =
+    tie.close
+    (tie.spec
+    returns
+    cast-minimum
+    array-share-prefix-incumbent
+    slice-aggregate-check-mapping
+    check-mapping-requires
+    enum-known-size
+    returns-2
+    returns-3)

@@ -1,0 +1,92 @@
+-- `search::walk::rebuild` meets its contract: each row passed that took a new vertex is refined (`RebuildTurn`).
+-- Assumes nothing.
+use borrow.Author.Needs.{needs}
+use Prim.Native.Nat.{_-_}
+use mathlib.Core.Logic.{⊎-elim}
+use native.Mathlib.Omega.{arith}
+use Rattle.search.proofs.NodeWords.{size-take-max, entry-max}
+use Rattle.search.proofs.RebuildTurn.{RebuiltTo, rebuilt-none, rebuilt-left-out, rebuilt-taken, rebuilt-all}
+use Rattle.search.proofs.walk.rebuild.Statement.{statement}
+use Rattle.search.proofs.walk.rebuild.Tie as tie
+
+abbrev Inv-loop : tie.InvT-loop
+Inv-loop order edges masks path workspace₀ depth row₀ pairs₀ workspace row pairs =
+    RebuiltTo order edges masks path depth workspace₀ workspace row pairs
+
+abbrev μ-loop : tie.MeasureT-loop
+μ-loop order edges masks path workspace₀ depth row₀ pairs₀ workspace row pairs = depth - row
+
+loop-holds : tie.Need-loop-holds Inv-loop μ-loop
+loop-holds c = rebuilt-none
+
+add-loop : tie.Need-add-loop Inv-loop μ-loop
+add-loop c = search needs
+
+element-copy-out-value : tie.Need-element-copy-out-value Inv-loop μ-loop
+element-copy-out-value c = search needs
+
+cast-refine : tie.Need-cast-refine Inv-loop μ-loop
+cast-refine c =
+    let start = c .before .before .before .before .before .before .before .before in
+    omega (arith, entry-max (start .pre) (c .before .before .before .before .loop .row) (omega arith) (c .before .if1 .taken))
+
+refine-requires : tie.Need-refine-requires Inv-loop μ-loop
+refine-requires c κs =
+    let start = c .before .before .before .before .before .before .before .before in
+    let bounds = start .pre in
+    let l = c .before .before .before .before .loop in (
+      bounds .edges-length,
+      bounds .masks-length,
+      omega (arith, bounds .room, l .inv .kept-length),
+      bounds .order-max,
+      omega (arith, bounds .depth-max),
+      omega (arith, l .inv .pairs-are, size-take-max (start .args .path .now) (l .row)),
+      entry-max bounds (l .row) (omega arith) (c .before .if1 .taken),
+    )
+
+add-pairs : tie.Need-add-pairs Inv-loop μ-loop
+add-pairs c =
+    let start = c .before .before .before .before .before .before .before .before .before .before .before in
+    let l = c .before .before .before .before .before .before .before .loop in
+    omega (arith, l .inv .pairs-are, size-take-max (start .args .path .now) (l .row), start .fits)
+
+add-row : tie.Need-add-row Inv-loop μ-loop
+add-row c = search needs
+
+loop-less : tie.Need-loop-less Inv-loop μ-loop
+loop-less c = search needs
+
+loop-again : tie.Need-loop-again Inv-loop μ-loop
+loop-again c =
+    let start = c .before .before .before .before .before .before .before in
+    let bounds = start .pre in
+    let l = c .before .before .before .loop in
+    ⊎-elim
+    (λ w. rw (w .5, w .6)
+    (rebuilt-taken (bounds .path-length) (bounds .order-max) (bounds .depth-max) (omega arith) (w .0 .taken) (w .2 .ensures .0) (l .inv)))
+    (λ w. rw (w .1, w .2) (rebuilt-left-out (omega arith) (w .0 .left) (l .inv)))
+    (c .if1 .came)
+
+same-length : tie.Need-same-length Inv-loop μ-loop
+same-length c = search needs
+
+returns : tie.Need-returns Inv-loop μ-loop
+returns c = rebuilt-all (c .loop-test .left) (c .before .loop .inv)
+
+pub rebuild-spec : {M : Type 1} → statement M
+rebuild-spec =
+    tie.close
+    (tie.spec
+    Inv-loop
+    μ-loop
+    loop-holds
+    add-loop
+    element-copy-out-value
+    cast-refine
+    refine-requires
+    add-pairs
+    add-row
+    loop-less
+    loop-again
+    same-length
+    returns)

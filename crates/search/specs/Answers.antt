@@ -1,0 +1,18 @@
+-- What a search call's answer says in 01's terms: the ceiling, or a refusal's number (01, "Refusals by place of checking").
+use mathlib.Core.List.{List}
+use Prim.Native.Nat.{ℕ}
+use Rattle.graph.specs.Answers.{Answer, accepted, refused, flawNumber}
+use Rattle.search.specs.declared.SearchAnswer.{SearchAnswer}
+use Rattle.search.specs.declared.SearchAnswer.the-variants.{Ceiling, Flawed, OutOfShape, FewWords, ManySteps}
+use Rattle.search.specs.declared.Searched.{Searched}
+use Rattle.search.specs.Call.{Called}
+
+abbrev pub searchAnswer : SearchAnswer → Answer
+searchAnswer (Ceiling n) = accepted n
+searchAnswer (Flawed f) = refused (flawNumber f)
+searchAnswer OutOfShape = refused 14
+searchAnswer FewWords = refused 15
+searchAnswer ManySteps = refused 16
+
+abbrev pub calledOf : Searched → List ℕ → Called
+calledOf r workspace = record { answer = searchAnswer (r .answer); checkpoint = r .checkpoint; workspace = workspace }

@@ -1,0 +1,65 @@
+-- A list of search calls on one problem, each on the checkpoint that the one before left: 01, "Bookmark and calls", third paragraph.
+use mathlib.Core.Path.{_≡_}
+use mathlib.Core.Bool.{Bool, true, false, cond}
+use mathlib.Core.List.{List, [], _∷_, _++_}
+use Prim.Native.Nat.{ℕ, _+_}
+use Rattle.graph.specs.Answers.{Answer, passed, accepted, refused, refusedAt}
+use Rattle.mapping.specs.Problem.{Problem}
+use Rattle.search.specs.declared.Checkpoint.{Checkpoint}
+use Rattle.search.specs.Checkpoints.{freshCheckpoint}
+use Rattle.search.specs.Call.{Called, searchCall}
+
+-- "The allowance, the number of work words and what these hold may be anything in each call."
+pub record Call : Type 0 where
+  pub budget : ℕ
+  pub workspace : List ℕ
+
+-- "All calls of a list have the same two charts."
+abbrev pub called : Problem → Checkpoint → Call → Called
+called P c call = searchCall P c (call .budget) (call .workspace)
+
+-- what each call gives; "Between two calls the bookmark's value stays the same"
+unfoldable pub results : Problem → Checkpoint → List Call → List Called
+results P c [] = []
+results P c (call ∷ later) = called P c call ∷ results P (called P c call .checkpoint) later
+
+-- the checkpoint that the last call leaves
+unfoldable pub leaves : Problem → Checkpoint → List Call → Checkpoint
+leaves P c [] = c
+leaves P c (call ∷ later) = leaves P (called P c call .checkpoint) later
+
+abbrev pub isRefused : Answer → Bool
+isRefused passed = false
+isRefused (accepted n) = false
+isRefused (refused n) = true
+isRefused (refusedAt n at) = true
+
+-- of a refused call "its allowance isn't counted"
+abbrev pub counted : Called → ℕ → ℕ
+counted r budget = cond (isRefused (r .answer)) 0 budget
+
+-- the summed budgets of the calls that are not refused
+unfoldable pub summed : Problem → Checkpoint → List Call → ℕ
+summed P c [] = 0
+summed P c (call ∷ later) = counted (called P c call) (call .budget) + summed P (called P c call .checkpoint) later
+
+-- one call of a list, with the calls before it and those after it
+pub record CallIn (calls : List Call) : Type 0 where
+  pub before : List Call
+  pub call : Call
+  pub later : List Call
+  pub whole : calls ≡ before ++ (call ∷ later)
+
+-- the calls up to this one, itself included
+abbrev pub upTo : {calls : List Call} → CallIn calls → List Call
+upTo x = x .before ++ (x .call ∷ [])
+
+-- from a fresh checkpoint: the checkpoint after the calls, their summed budgets, and what one of them gives
+abbrev pub reached : Problem → ℕ → List Call → Checkpoint
+reached P minimum calls = leaves P (freshCheckpoint minimum) calls
+
+abbrev pub spent : Problem → ℕ → List Call → ℕ
+spent P minimum calls = summed P (freshCheckpoint minimum) calls
+
+abbrev pub resultOf : Problem → ℕ → {calls : List Call} → CallIn calls → Called
+resultOf P minimum x = called P (reached P minimum (x .before)) (x .call)

@@ -1,0 +1,7 @@
+pub mod Checkpoints
+pub mod Call
+pub mod Calls
+pub mod ThirdProperty
+pub mod Answers
+pub mod Words
+pub mod Walking
