@@ -1,6 +1,7 @@
 // Sets of the numbers 0 to 63, each a 64-bit word with a digit set for each member.
 
 ghost use mathlib.Core.Path.{_≡_};
+ghost use lib.Dec.{eqb};
 ghost use Rattle.bitset.specs.Members.{member, meetOf, insert};
 ghost use Rattle.bitset.specs.Count.{size};
 ghost use Rattle.bitset.specs.Least.{leastMember, leastAbove};
@@ -14,6 +15,13 @@ pub fn size(s: u64) -> u32
     ensures { λ r. ⌜ r ≡ size s ⌝ }
 {
     u64::count_ones(s)
+}
+
+// A set is empty where its number of ones is 0.
+pub fn is_empty(s: u64) -> bool
+    ensures { λ r. ⌜ r ≡ eqb s 0 ⌝ }
+{
+    u64::count_ones(s) == 0
 }
 
 pub fn least_member(s: u64) -> Least

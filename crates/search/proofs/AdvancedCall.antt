@@ -1,7 +1,7 @@
 -- An accepted call: the words of the checkpoint's path are rebuilt, the visits are made, and the ceiling there is returned.
 use mathlib.Core.Path.{_≡_, refl, sym, ap, ap₂, _∙_}
 use mathlib.Core.List.{List, [], _++_}
-use Prim.Native.Nat.{ℕ, _+_, _-_, _≤_}
+use Prim.Native.Nat.{ℕ, _-_, _≤_}
 use native.Mathlib.Omega.{arith}
 use lib.ListN.{length, take, drop, replicate, drop-of-length-le}
 use Rattle.graph.specs.Graph.{graph}
@@ -18,61 +18,68 @@ use Rattle.search.specs.Checkpoints.{checkpointOf, stateOf, InShape}
 use Rattle.search.specs.Call.{Called, visits, advance}
 use Rattle.search.specs.Words.{Masks, Words}
 use Rattle.search.specs.Walking.{Setting, AtNode, InBounds, walkState, Starts, Visited}
-use Rattle.search.proofs.CheckpointState.{state-of-checkpoint}
 use Rattle.search.proofs.ReachedBounds.{reached-in-bounds}
-use Rattle.search.proofs.ShapeKept.{visits-shape, state-in-shape, advance-in-shape}
+use Rattle.search.proofs.ResumedWalk.{visited-state}
+use Rattle.search.proofs.ShapeKept.{state-in-shape, advance-in-shape}
 
 -- words of which none is past the cleared ones are all cleared
 all-cleared : (m : ℕ) (zeros before after cleared : List ℕ) → length before ≤ m → length after ≤ m → cleared ≡ zeros ++ drop m before
     → cleared ≡ zeros ++ drop m after
 all-cleared m zeros before after cleared few few′ e = e ∙ ap (_++_ zeros) (drop-of-length-le before few ∙ sym (drop-of-length-le after few′))
 
-module _ (P : Problem) (c : Checkpoint) (sound : SoundProblem P) (shape : InShape P c) (path-long : length (c .path) ≡ 64) where
+-- what an accepted call starts from: a sound problem, and a checkpoint in shape, with its arrays of 64 bytes
+pub record Accepted (P : Problem) (c : Checkpoint) : Type 0 where
+  pub sound : SoundProblem P
+  pub shape : InShape P c
+  pub path-long : length (c .path) ≡ 64
+  pub incumbent-long : length (c .incumbent) ≡ 64
+
+module _ {P : Problem} {c : Checkpoint} (call : Accepted P c) where
   -- The path of a checkpoint in shape is reached.
   pub shape-reached : Reached (rulesOf P) (take (c .depth) (c .path))
   unfolding stateOf
-  shape-reached = state-in-shape P sound c path-long shape .reached
+  shape-reached = state-in-shape P (call .sound) c (call .path-long) (call .shape) .reached
 
-  module _ {masks : List ℕ} (filled : Masks (graph (P .new .order) [] (P .new .edges)) masks) where
-    -- The problem, with the masks filled in, is what the code is lent.
-    pub call-setting : Setting P (P .old .order) (P .old .edges) masks
-    call-setting = record { sound = sound; order-is = refl; edges-is = refl; masks-are = filled }
+  -- The problem, with the masks filled in, is what the code is lent.
+  pub call-setting : {masks : List ℕ} → Masks (graph (P .new .order) [] (P .new .edges)) masks → Setting P (P .old .order) (P .old .edges) masks
+  call-setting filled = record { sound = call .sound; order-is = refl; edges-is = refl; masks-are = filled }
 
-    -- The checkpoint's path is in bounds.
-    pub call-bounds : {ws : List ℕ} → 4160 ≤ length ws
-        → InBounds (P .old .order) (P .old .edges) masks (c .path) (c .depth) (size (take (c .depth) (c .path))) ws
-    call-bounds room = reached-in-bounds (c .path) (c .depth) call-setting shape-reached (shape .depth-max) path-long room
+  -- The checkpoint's path is in bounds.
+  pub call-bounds : {masks ws : List ℕ} → Masks (graph (P .new .order) [] (P .new .edges)) masks → 4160 ≤ length ws
+      → InBounds (P .old .order) (P .old .edges) masks (c .path) (c .depth) (size (take (c .depth) (c .path))) ws
+  call-bounds filled room =
+      reached-in-bounds (c .path) (c .depth) (call-setting filled) shape-reached (call .shape .depth-max) (call .path-long) room
 
-    -- Once the words of its ancestors are there, the checkpoint is at a node.
-    pub call-node : {ws : List ℕ} → 4160 ≤ length ws → Words P (c .path) (c .depth - 1) ws
-        → AtNode P (c .path) (c .depth) (size (take (c .depth) (c .path))) ws
-    call-node room words = record {
-      path-length = path-long;
-      room = room;
-      reached = shape-reached;
-      depth-max = shape .depth-max;
-      pairs-are = refl;
-      words = words;
-    }
+  -- Once the words of its ancestors are there, the checkpoint is at a node.
+  pub call-node : {ws : List ℕ} → 4160 ≤ length ws → Words P (c .path) (c .depth - 1) ws
+      → AtNode P (c .path) (c .depth) (size (take (c .depth) (c .path))) ws
+  call-node room words = record {
+    path-length = call .path-long;
+    room = room;
+    reached = shape-reached;
+    depth-max = call .shape .depth-max;
+    pairs-are = refl;
+    words = words;
+  }
 
-  module _ (budget : ℕ) {ws : List ℕ} {end : Checkpoint} (visited : Visited P budget c ws end) where
+  module _ {budget : ℕ} {ws : List ℕ} {end : Checkpoint} (visited : Visited P budget c ws end) where
     -- The checkpoint that the visits leave is in shape.
     pub visited-shape : InShape P end
     unfolding advance
-    visited-shape = rw (visited .checkpoint-is) (advance-in-shape P sound c path-long shape budget [])
+    visited-shape = rw (visited .checkpoint-is) (advance-in-shape P (call .sound) c (call .path-long) (call .shape) budget [])
 
-    -- The visits keep the minimum.
-    pub visited-minimum : end .minimum ≡ c .minimum
+    -- the visits keep the minimum
+    visited-minimum : end .minimum ≡ c .minimum
     unfolding checkpointOf
     visited-minimum = ap (λ (x : Checkpoint). x .minimum) (visited .checkpoint-is)
 
     -- The checkpoint that the visits leave, the ceiling there and the cleared workspace are what an accepted call gives.
-    pub call-arrives : {walk : Walk} (top : ℕ) (lent before cleared : List ℕ) → Starts (P .old .order) end walk
+    pub call-arrives : {walk : Walk} {top : ℕ} (lent before : List ℕ) {cleared : List ℕ} → Starts (P .old .order) end walk
         → top ≡ ceiling (rulesOf P) (end .minimum) (walkState (P .old .order) walk (end .path) (end .incumbent))
         → length lent ≡ 4160 → length before ≡ 4160 → cleared ≡ replicate 4160 0 ++ drop 4160 before
         → _≡_ {A = Called} (record { answer = accepted top; checkpoint = end; workspace = cleared }) (advance P c budget lent)
     unfolding advance
-    call-arrives {walk} top lent before cleared starts top-is whole kept clear = λ i. record {
+    call-arrives {walk} {top} lent before {cleared} starts top-is whole kept clear = λ i. record {
       answer = accepted (answer-is i);
       checkpoint = visited .checkpoint-is i;
       workspace = all-cleared 4160 (replicate 4160 0) before lent cleared (omega arith) (omega arith) clear i;
@@ -82,10 +89,7 @@ module _ (P : Problem) (c : Checkpoint) (sound : SoundProblem P) (shape : InShap
         s = visits (rulesOf P) (c .minimum) budget (stateOf (P .old .order) c)
 
         state-is : walkState (P .old .order) walk (end .path) (end .incumbent) ≡ s
-        state-is =
-            starts .state-is ∙ ap (stateOf (P .old .order)) (visited .checkpoint-is)
-            ∙ state-of-checkpoint (P .old .order) (c .minimum) s
-            (λ h e. visits-shape (rulesOf P) (c .minimum) budget (stateOf (P .old .order) c) (state-in-shape P sound c path-long shape) .held-shape h e .full)
+        state-is = starts .state-is ∙ visited-state (call .sound) (call .shape) (call .path-long) visited
 
         answer-is : top ≡ ceiling (rulesOf P) (c .minimum) s
         answer-is = top-is ∙ ap₂ (ceiling (rulesOf P)) visited-minimum state-is

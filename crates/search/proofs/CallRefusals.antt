@@ -56,5 +56,9 @@ module _ (P : Problem) (c : Checkpoint) (budget : ℕ) (workspace : List ℕ) wh
   front-advanced r e = λ i. record {
     answer = e i .answer;
     checkpoint = e i .checkpoint;
-    workspace = (ap (λ (x : Called). x .workspace ++ drop wordsNeeded workspace) e ∙ front-put-back wordsNeeded (replicate wordsNeeded 0) workspace) i;
+    workspace = put-back i;
   }
+    where
+      put-back : r .workspace ++ drop wordsNeeded workspace ≡ replicate wordsNeeded 0 ++ drop wordsNeeded workspace
+      put-back =
+          ap (λ (x : Called). x .workspace ++ drop wordsNeeded workspace) e ∙ front-put-back wordsNeeded (replicate wordsNeeded 0) workspace

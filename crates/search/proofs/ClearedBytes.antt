@@ -22,7 +22,8 @@ pub cleared-none : (from : ℕ) (bytes : List ℕ) → length bytes ≡ 64 → C
 cleared-none from bytes long = record { start = omega arith; long = long; kept = refl; zeros = λ k h l. absurd (omega arith) }
 
 -- The next byte is cleared.
-pub cleared-more : (from i : ℕ) (bytes cleared : List ℕ) → i < 64 → ClearedTo from i bytes cleared → ClearedTo from (i + 1) bytes (set cleared i 0)
+pub cleared-more : (from i : ℕ) (bytes cleared : List ℕ) → i < 64 → ClearedTo from i bytes cleared
+    → ClearedTo from (i + 1) bytes (set cleared i 0)
 cleared-more from i bytes cleared inside s = record {
   start = omega (arith, s .start);
   long = length-set cleared i 0 ∙ s .long;
@@ -34,6 +35,7 @@ cleared-more from i bytes cleared inside s = record {
     last k q = rw q (getD-set-same cleared i 0 0 (omega (arith, s .long)))
 
 -- Once all are, the bytes are those before `from`, padded.
-pub cleared-all : (from i : ℕ) (bytes cleared : List ℕ) → from ≤ 64 → 64 ≤ i → ClearedTo from i bytes cleared → cleared ≡ padded (take from bytes)
+pub cleared-all : (from i : ℕ) (bytes cleared : List ℕ) → from ≤ 64 → 64 ≤ i → ClearedTo from i bytes cleared
+    → cleared ≡ padded (take from bytes)
 cleared-all from i bytes cleared few done s =
     sym (padded-back from cleared (s .long) few (λ k h l. s .zeros k h (omega arith))) ∙ ap padded (s .kept)

@@ -14,7 +14,7 @@ use denote.Floats.{is-true}
 use Rattle.mapping.specs.Problem.{Problem, SoundProblem}
 use Rattle.mapping.specs.Common.{size}
 use Rattle.search_tree.specs.Rules.{rulesOf}
-use Rattle.search_tree.specs.Walk.{cutoff, visit}
+use Rattle.search_tree.specs.Walk.{cutoff}
 use Rattle.search.specs.declared.walk.Walk.{Walk}
 use Rattle.search.specs.declared.Checkpoint.{Checkpoint}
 use Rattle.search.specs.Checkpoints.{padded, isHeld, heldBytes, checkpointOf, stateOf, InShape}
@@ -135,27 +135,32 @@ module _ {P : Problem} {n : ℕ} {edges masks : List ℕ} {c : Checkpoint} {w en
       front : List ℕ
       front = take (end .place .depth) path
 
+      inside : end .place .depth ≤ 64
+      inside = omega (arith, ready .node .depth-max, setting .sound .old-sound .order-max)
+
       depth : length front ≡ end .place .depth
-      depth = length-take-le (end .place .depth) path (omega (arith, ready .node .depth-max, setting .sound .old-sound .order-max, ready .node .path-length))
+      depth = length-take-le (end .place .depth) path (omega (arith, inside, ready .node .path-length))
 
       same : front ≡ take (end .place .depth) (padded front)
       same = sym (take-at front (replicate (64 - length front) 0) (end .place .depth) depth)
 
       whole : length (padded front) ≡ 64
-      whole = padded-length front (omega (arith, depth, ready .node .depth-max, setting .sound .old-sound .order-max))
+      whole = padded-length front (omega (arith, inside, depth))
 
   -- A run of visits leaves the checkpoint after them.
   pub run-visited : Visited P budget c ws r
   run-visited = record {
-    checkpoint-is = stored ∙ ap (checkpointOf (c .minimum)) (made ∙ ap (visits (rulesOf P) (c .minimum) budget) (starts .state-is ∙ ap (λ (m : ℕ). stateOf m c) (sym (setting .order-is))));
+    checkpoint-is = stored ∙ ap (checkpointOf (c .minimum)) (made ∙ ap (visits (rulesOf P) (c .minimum) budget) begun);
     node = stored-node;
   }
+    where
+      begun : walkState n w (c .path) (c .incumbent) ≡ stateOf (P .old .order) c
+      begun = starts .state-is ∙ ap (λ (m : ℕ). stateOf m c) (sym (setting .order-is))
 
--- The checkpoint after one visit stands for the state after it.
-pub visited-once : {P : Problem} {c r : Checkpoint} {ws : List ℕ} → SoundProblem P → InShape P c → length (c .path) ≡ 64 → Visited P 1 c ws r
-    → stateOf (P .old .order) r ≡ visit (rulesOf P) (c .minimum) (stateOf (P .old .order) c)
-unfolding visits
-visited-once {P} {c} sound shape long visited =
+-- The checkpoint that visits leave stands for the state after them.
+pub visited-state : {P : Problem} {budget : ℕ} {c r : Checkpoint} {ws : List ℕ} → SoundProblem P → InShape P c → length (c .path) ≡ 64
+    → Visited P budget c ws r → stateOf (P .old .order) r ≡ visits (rulesOf P) (c .minimum) budget (stateOf (P .old .order) c)
+visited-state {P} {budget} {c} sound shape long visited =
     ap (stateOf (P .old .order)) (visited .checkpoint-is)
     ∙ state-of-checkpoint (P .old .order) (c .minimum) _
-    (λ h e. visits-shape (rulesOf P) (c .minimum) 1 (stateOf (P .old .order) c) (state-in-shape P sound c long shape) .held-shape h e .full)
+    (λ h e. visits-shape (rulesOf P) (c .minimum) budget (stateOf (P .old .order) c) (state-in-shape P sound c long shape) .held-shape h e .full)

@@ -94,7 +94,7 @@ pub fn refine(
         let label = edges[64 * row + r] as usize;
         let word = bitset::meet(workspace[64 * pairs + r], masks[256 * value + label]);
         workspace[64 * pairs + 64 + r] = word;
-        if word != 0 {
+        if !bitset::is_empty(word) {
             count += 1;
         }
         r += 1;
@@ -110,7 +110,7 @@ pub fn count_open(order: usize, workspace: &[u64], depth: usize, pairs: usize) -
     let mut count = 0;
     let mut r = depth;
     while r < order {
-        if workspace[64 * pairs + r] != 0 {
+        if !bitset::is_empty(workspace[64 * pairs + r]) {
             count += 1;
         }
         r += 1;
@@ -136,7 +136,7 @@ pub fn count_refined(
     while r < order {
         let label = edges[64 * row + r] as usize;
         let word = bitset::meet(workspace[64 * pairs + r], masks[256 * value + label]);
-        if word != 0 {
+        if !bitset::is_empty(word) {
             count += 1;
         }
         r += 1;

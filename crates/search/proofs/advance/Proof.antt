@@ -8,7 +8,7 @@ use Rattle.graph.specs.Graph.{graph}
 use Rattle.mapping.specs.Problem.{Problem, problem}
 use Rattle.mapping.specs.Common.{size}
 use Rattle.search.specs.Walking.{Setting, AtNode, Ready, Visited}
-use Rattle.search.proofs.AdvancedCall.{shape-reached, call-setting, call-bounds, call-node, visited-shape, call-arrives}
+use Rattle.search.proofs.AdvancedCall.{Accepted, shape-reached, call-setting, call-bounds, call-node, visited-shape, call-arrives}
 use Rattle.search.proofs.ResumedWalk.{start-ready}
 use Rattle.search.proofs.StepTurn.{ready-in-bounds}
 use Rattle.search.proofs.WordLevels.{root-words}
@@ -21,17 +21,39 @@ asked s =
     let a = s .args in
     problem (graph (a .old-order) (a .old-labels .now) (a .old-edges .now)) (graph (a .new-order) (a .new-labels .now) (a .new-edges .now))
 
--- a checkpoint's arrays have 64 bytes
-path-long : (s : tie.Start) → length (s .args .checkpoint .path) ≡ 64
-path-long s = simp length-map at (s .good .1 .1 .1 .1 .1 .1 .0 .1 .1 .1 .1 .1 .0 .1 .0 .1)
+-- the way back from each call to the one before it
+abbrev at-entry : tie.After-fill-masks → tie.Start
+at-entry c = c .before .before .before .before .before .before .before
 
-incumbent-long : (s : tie.Start) → length (s .args .checkpoint .incumbent) ≡ 64
-incumbent-long s = simp length-map at (s .good .1 .1 .1 .1 .1 .1 .0 .1 .1 .1 .1 .1 .1 .1 .1 .0 .1 .0 .1)
+abbrev at-masks : tie.After-root-words → tie.After-fill-masks
+at-masks c = c .before .before .before
+
+abbrev at-root : tie.After-rebuild → tie.After-root-words
+at-root c = c .before .before .before .before .before .before .before
+
+abbrev at-rebuild : tie.After-visits → tie.After-rebuild
+at-rebuild c = c .before .before .before .before .before
+
+abbrev at-visits : tie.After-start → tie.After-visits
+at-visits c = c .before .before .before .before
+
+abbrev at-start : tie.After-ceiling → tie.After-start
+at-start c = c .before .before .before .before
+
+-- what the call starts from; that its arrays have 64 bytes comes with the checkpoint's type
+given : (s : tie.Start) → Accepted (asked s) (s .args .checkpoint)
+given s =
+    let fields = s .good .1 .1 .1 .1 .1 .1 .0 .1 .1 in record {
+      sound = s .pre .0;
+      shape = s .pre .1 .0;
+      path-long = simp length-map at (fields .1 .1 .1 .0 .1 .0 .1);
+      incumbent-long = simp length-map at (fields .1 .1 .1 .1 .1 .1 .0 .1 .0 .1);
+    }
 
 -- what the code is lent, once the masks are filled in
-lent : (c : tie.After-fill-masks) → let s = c .before .before .before .before .before .before .before in
-    Setting (asked s) (s .args .old-order) (s .args .old-edges .now) (c .fill-masks .last .1 .1 .0)
-lent c = let s = c .before .before .before .before .before .before .before in call-setting (asked s) (s .args .checkpoint) (s .pre .0) (s .pre .1 .0) (path-long s) (c .fill-masks .ensures)
+lent : (c : tie.After-fill-masks)
+    → let s = at-entry c in Setting (asked s) (s .args .old-order) (s .args .old-edges .now) (c .fill-masks .last .1 .1 .0)
+lent c = call-setting (given (at-entry c)) (c .fill-masks .ensures)
 
 slice-aggregate-fill-masks : tie.Need-slice-aggregate-fill-masks
 slice-aggregate-fill-masks c = search needs
@@ -43,110 +65,117 @@ fill-masks-requires c κs =
 
 root-words-requires : tie.Need-root-words-requires
 root-words-requires c κs =
-    let pre = c .before .before .before .before .before .before .before .before .before .pre in
+    let pre = at-entry (c .before .before) .pre in
     let old = pre .0 .old-sound in
     let new = pre .0 .new-sound in
     (old .labels-length, new .labels-length, old .order-max, new .order-max, omega (arith, pre .1 .1 .0))
 
 slice-aggregate-rebuild : tie.Need-slice-aggregate-rebuild
-slice-aggregate-rebuild c = sym (c .before .before .before .before .before .before .before .fill-masks .ensures .words)
+slice-aggregate-rebuild c = sym (at-masks (c .before .before .before .before) .fill-masks .ensures .words)
+
+-- the workspace keeps its length
+root-whole : (c : tie.After-root-words) → length (c .root-words .last .1 .1 .1 .1 .0) ≡ 4160
+root-whole c = c .root-words .kept .1 .1 .1 .1 .0 ∙ at-entry (at-masks c) .pre .1 .1 .0
 
 rebuild-requires : tie.Need-rebuild-requires
 rebuild-requires c κs =
-    let s = c .before .before .before .before .before .before .before .before .before .before .before .before .before .before .before .before in
-    call-bounds (asked s) (s .args .checkpoint) (s .pre .0) (s .pre .1 .0) (path-long s) (c .before .before .before .before .before .before .before .before .before .fill-masks .ensures)
-    (omega (arith, s .pre .1 .1 .0, c .before .before .before .before .before .before .root-words .kept .1 .1 .1 .1 .0))
+    let root = c .before .before .before .before .before .before in
+    let masks = at-masks root in
+    call-bounds (given (at-entry masks)) (masks .fill-masks .ensures) (omega (arith, root-whole root))
+
+rebuild-whole : (c : tie.After-rebuild) → length (c .rebuild .last .1 .1 .1 .1 .0) ≡ 4160
+rebuild-whole c = c .rebuild .kept .1 .1 .1 .1 .0 ∙ root-whole (at-root c)
 
 slice-aggregate-visits : tie.Need-slice-aggregate-visits
-slice-aggregate-visits c = sym (c .before .before .before .before .before .before .before .before .before .before .before .before .before .fill-masks .ensures .words)
+slice-aggregate-visits c = sym (at-masks (at-root (c .before .before .before)) .fill-masks .ensures .words)
 
 -- the checkpoint is at a node once the words of its ancestors are rebuilt
-rebuilt : (c : tie.After-rebuild) → let s = c .before .before .before .before .before .before .before .before .before .before .before .before .before .before .before .before .before in
-    AtNode (asked s) (s .args .checkpoint .path) (s .args .checkpoint .depth) (size (take (s .args .checkpoint .depth) (s .args .checkpoint .path)))
-    (c .rebuild .last .1 .1 .1 .1 .0)
+rebuilt : (c : tie.After-rebuild)
+    → let s = at-entry (at-masks (at-root c)) in let k = s .args .checkpoint in
+    AtNode (asked s) (k .path) (k .depth) (size (take (k .depth) (k .path))) (c .rebuild .last .1 .1 .1 .1 .0)
 rebuilt c =
-    let s = c .before .before .before .before .before .before .before .before .before .before .before .before .before .before .before .before .before in
-    let a = s .args in
-    let root = c .before .before .before .before .before .before .before .root-words in
-    call-node (asked s) (a .checkpoint) (s .pre .0) (s .pre .1 .0) (path-long s) (c .before .before .before .before .before .before .before .before .before .before .fill-masks .ensures)
-    (omega (arith, s .pre .1 .1 .0, root .kept .1 .1 .1 .1 .0, c .rebuild .kept .1 .1 .1 .1 .0))
-    (c .rebuild .ensures (asked s) (lent (c .before .before .before .before .before .before .before .before .before .before))
-    (shape-reached (asked s) (a .checkpoint) (s .pre .0) (s .pre .1 .0) (path-long s))
-    (root-words (asked s) (s .pre .0) (root .ensures) (a .checkpoint .path)))
+    let masks = at-masks (at-root c) in
+    let s = at-entry masks in
+    call-node (given s) (omega (arith, rebuild-whole c))
+    (c .rebuild .ensures (asked s) (lent masks) (shape-reached (given s))
+    (root-words (asked s) (s .pre .0) (at-root c .root-words .ensures) (s .args .checkpoint .path)))
 
 visits-requires : tie.Need-visits-requires
 visits-requires c κs =
-    let s = c .before .before .before .before .before .before .before .before .before .before .before .before .before .before .before .before .before .before .before .before .before in (
+    let rebuild = c .before .before .before .before in
+    let masks = at-masks (at-root rebuild) in
+    let s = at-entry masks in (
       record {
         problem = asked s;
-        setting = lent (c .before .before .before .before .before .before .before .before .before .before .before .before .before .before);
+        setting = lent masks;
         shape = s .pre .1 .0;
-        node = rebuilt (c .before .before .before .before);
-        incumbent-length = incumbent-long s;
+        node = rebuilt rebuild;
+        incumbent-length = given s .incumbent-long;
       },
       s .pre .1 .1 .1,
     )
 
 -- the visits are made
-visited : (c : tie.After-visits) → let s = c .before .before .before .before .before .before .before .before .before .before .before .before .before .before .before .before .before .before .before .before .before .before in
+visited : (c : tie.After-visits)
+    → let s = at-entry (at-masks (at-root (at-rebuild c))) in
     Visited (asked s) (s .args .budget) (s .args .checkpoint) (c .visits .last .1 .1 .1 .1 .1 .0) (c .visits .result)
-visited c = let s = c .before .before .before .before .before .before .before .before .before .before .before .before .before .before .before .before .before .before .before .before .before .before in c .visits .ensures (asked s) (lent (c .before .before .before .before .before .before .before .before .before .before .before .before .before .before .before)) (s .pre .1 .0) (rebuilt (c .before .before .before .before .before))
+visited c =
+    let masks = at-masks (at-root (at-rebuild c)) in
+    let s = at-entry masks in
+    c .visits .ensures (asked s) (lent masks) (s .pre .1 .0) (rebuilt (at-rebuild c))
 
+-- the last array of the checkpoint that the visits leave has 64 bytes too
 end-long : (c : tie.After-visits) → length (c .visits .result .incumbent) ≡ 64
 end-long c = simp length-map at (c .visits .ok .1 .1 .1 .1 .1 .1 .1 .1 .0 .1 .0 .1)
 
 start-requires : tie.Need-start-requires
 start-requires c κs =
-    let v = c .before .before .before in
-    let s = v .before .before .before .before .before .before .before .before .before .before .before .before .before .before .before .before .before .before .before .before .before .before in (
-      visited v .node .path-length,
-      end-long v,
-      visited-shape (asked s) (s .args .checkpoint) (s .pre .0) (s .pre .1 .0) (path-long s) (s .args .budget) (visited v) .depth-max,
-      s .pre .0 .old-sound .order-max,
-    )
+    let end = c .before .before .before in
+    let s = at-entry (at-masks (at-root (at-rebuild end))) in
+    (visited end .node .path-length, end-long end, visited-shape (given s) (visited end) .depth-max, s .pre .0 .old-sound .order-max)
 
 slice-aggregate-ceiling : tie.Need-slice-aggregate-ceiling
-slice-aggregate-ceiling c = sym (c .before .before .before .before .before .before .before .before .before .before .before .before .before .before .before .before .before .before .before .before .fill-masks .ensures .words)
+slice-aggregate-ceiling c = sym (at-masks (at-root (at-rebuild (at-visits (c .before)))) .fill-masks .ensures .words)
 
 -- the walk at the end is ready for a visit
-ready : (c : tie.After-start) → let v = c .before .before .before .before in
-    Ready (asked (v .before .before .before .before .before .before .before .before .before .before .before .before .before .before .before .before .before .before .before .before .before .before)) (v .visits .result .minimum) (c .start .result) (v .visits .result .path) (v .visits .result .incumbent)
+ready : (c : tie.After-start)
+    → let v = at-visits c in let end = v .visits .result in
+    Ready (asked (at-entry (at-masks (at-root (at-rebuild v))))) (end .minimum) (c .start .result) (end .path) (end .incumbent)
     (v .visits .last .1 .1 .1 .1 .1 .0)
 ready c =
-    let v = c .before .before .before .before in
-    let s = v .before .before .before .before .before .before .before .before .before .before .before .before .before .before .before .before .before .before .before .before .before .before in
-    start-ready (lent (v .before .before .before .before .before .before .before .before .before .before .before .before .before .before .before))
-    (visited-shape (asked s) (s .args .checkpoint) (s .pre .0) (s .pre .1 .0) (path-long s) (s .args .budget) (visited v))
-    (visited v .node) (end-long v) (c .start .ensures)
+    let v = at-visits c in
+    let masks = at-masks (at-root (at-rebuild v)) in
+    start-ready (lent masks) (visited-shape (given (at-entry masks)) (visited v)) (visited v .node) (end-long v) (c .start .ensures)
 
 ceiling-requires : tie.Need-ceiling-requires
 ceiling-requires c κs =
-    let w = c .before .before .before in
-    ready-in-bounds (lent (w .before .before .before .before .before .before .before .before .before .before .before .before .before .before .before .before .before .before .before)) (ready w)
+    let start = c .before .before .before in
+    ready-in-bounds (lent (at-masks (at-root (at-rebuild (at-visits start))))) (ready start)
 
--- the workspace keeps its length
-whole : (c : tie.After-ceiling) → length (c .ceiling .last .1 .1 .1 .1 .1 .0) ≡ 4160
-whole c =
-    c .ceiling .kept .1 .1 .1 .1 .1 .0 ∙ c .before .before .before .before .before .before .before .before .visits .kept .1 .1 .1 .1 .1 .0 ∙ c .before .before .before .before .before .before .before .before .before .before .before .before .before .rebuild .kept .1 .1 .1 .1 .0
-    ∙ c .before .before .before .before .before .before .before .before .before .before .before .before .before .before .before .before .before .before .before .before .root-words .kept .1 .1 .1 .1 .0 ∙ c .before .before .before .before .before .before .before .before .before .before .before .before .before .before .before .before .before .before .before .before .before .before .before .before .before .before .before .before .before .before .pre .1 .1 .0
+ceiling-whole : (c : tie.After-ceiling) → length (c .ceiling .last .1 .1 .1 .1 .1 .0) ≡ 4160
+ceiling-whole c =
+    let v = at-visits (at-start c) in
+    c .ceiling .kept .1 .1 .1 .1 .1 .0 ∙ v .visits .kept .1 .1 .1 .1 .1 .0 ∙ rebuild-whole (at-rebuild v)
 
 clear-words-requires : tie.Need-clear-words-requires
-clear-words-requires c κs = omega (arith, whole (c .before .before .before))
+clear-words-requires c κs = omega (arith, ceiling-whole (c .before .before .before))
 
 same-length : tie.Need-same-length
-same-length c = c .before .before .clear-words .kept .0 ∙ whole (c .before .before .before .before .before .before) ∙ sym (c .before .before .before .before .before .before .before .before .before .before .before .before .before .before .before .before .before .before .before .before .before .before .before .before .before .before .before .before .before .before .before .before .before .before .before .before .pre .1 .1 .0)
+same-length c =
+    let top = c .before .before .before .before .before .before in
+    c .before .before .clear-words .kept .0 ∙ ceiling-whole top
+    ∙ sym (at-entry (at-masks (at-root (at-rebuild (at-visits (at-start top))))) .pre .1 .1 .0)
 
 returns : tie.Need-returns
 returns c =
     let top = c .before .before .before .before .before .before in
-    let w = top .before .before .before .before in
-    let v = w .before .before .before .before in
-    let s = v .before .before .before .before .before .before .before .before .before .before .before .before .before .before .before .before .before .before .before .before .before .before in
-    let a = s .args in
-    call-arrives (asked s) (a .checkpoint) (s .pre .0) (s .pre .1 .0) (path-long s) (a .budget) (visited v) (top .ceiling .result) (a .workspace .now)
-    (top .ceiling .last .1 .1 .1 .1 .1 .0) (c .before .before .clear-words .last .0) (w .start .ensures)
-    (top .ceiling .ensures (asked s) (v .visits .result .minimum) (v .visits .result .incumbent) (lent (v .before .before .before .before .before .before .before .before .before .before .before .before .before .before .before)) (ready w))
-    (s .pre .1 .1 .0) (whole top) (c .before .before .clear-words .ensures)
+    let start = at-start top in
+    let v = at-visits start in
+    let masks = at-masks (at-root (at-rebuild v)) in
+    let s = at-entry masks in
+    call-arrives (given s) (visited v) (s .args .workspace .now) (top .ceiling .last .1 .1 .1 .1 .1 .0) (start .start .ensures)
+    (top .ceiling .ensures (asked s) (v .visits .result .minimum) (v .visits .result .incumbent) (lent masks) (ready start))
+    (s .pre .1 .1 .0) (ceiling-whole top) (c .before .before .clear-words .ensures)
 
 pub advance-spec : {M : Type 1} → statement M
 advance-spec =

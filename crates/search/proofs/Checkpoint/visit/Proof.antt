@@ -1,6 +1,7 @@
 -- `search::Checkpoint::visit` meets its contract: the checkpoint after one visit stands for the state after it (`ResumedWalk`).
 -- Assumes nothing.
-use Rattle.search.proofs.ResumedWalk.{visited-once}
+use Rattle.search.specs.Call.{visits}
+use Rattle.search.proofs.ResumedWalk.{visited-state}
 use Rattle.search.proofs.Checkpoint.visit.Statement.{statement}
 use Rattle.search.proofs.Checkpoint.visit.Tie as tie
 
@@ -11,8 +12,10 @@ same-length : tie.Need-same-length
 same-length c = c .before .before .visits .kept .1 .1 .1 .1 .1 .0
 
 returns : tie.Need-returns
+unfolding visits
 returns c P setting shape node =
-    rw (← setting .order-is) (visited-once (setting .sound) shape (node .path-length) (c .before .before .visits .ensures P setting shape node))
+    let visited = c .before .before .visits .ensures P setting shape node in
+    rw (← setting .order-is) (visited-state (setting .sound) shape (node .path-length) visited)
 
 pub visit-spec : {M : Type 1} → statement M
 visit-spec = tie.close (tie.spec visits-requires same-length returns)

@@ -1,7 +1,7 @@
 -- `search::store::clear_words` meets its contract: the words passed are 0, and those after them are kept. Assumes nothing.
 use mathlib.Core.Path.{_≡_, refl, ap, _∙_}
 use mathlib.Core.List.{List, _++_}
-use Prim.Native.Nat.{ℕ, _-_, _≤_}
+use Prim.Native.Nat.{ℕ, _-_, _≤_, _<_}
 use native.Mathlib.Omega.{arith}
 use lib.ListN.{length, drop, set, replicate, length-set}
 use borrow.Author.Fill.{fill-none, fill-more}
@@ -33,7 +33,8 @@ loop-less c = search needs
 loop-again : tie.Need-loop-again Inv-loop μ-loop
 loop-again c =
     let l = c .before .loop in
-    (search needs, simp length-set (l .inv .1), ap (λ (w : List ℕ). set w (l .i) 0) (l .inv .2) ∙ fill-more (l .i) 0 (c .before .before .args .workspace .now) (omega arith))
+    let room : l .i < length (c .before .before .args .workspace .now) = omega arith in
+    (search needs, simp length-set (l .inv .1), ap (λ (w : List ℕ). set w (l .i) 0) (l .inv .2) ∙ fill-more (l .i) 0 _ room)
 
 same-length : tie.Need-same-length Inv-loop μ-loop
 same-length c = c .before .loop .inv .1

@@ -1,5 +1,6 @@
 -- `search::words::count_open` meets its contract: the rows passed that have a candidate are counted (`OpenRows`).
 -- Assumes nothing.
+use mathlib.Core.Path.{sym, _∙_}
 use mathlib.Core.Bool.{not, _&&_}
 use mathlib.Core.Logic.{⊎-elim}
 use Prim.Native.Nat.{_+_, _-_, _*_, _≤_}
@@ -7,7 +8,7 @@ use native.Mathlib.Omega.{arith}
 use lib.Dec.{leb, eqb}
 use lib.ListN.{getD}
 use borrow.Author.Needs.{needs}
-use borrow.Author.Tests.{le-leb, lt-leb, eq-eqb, ne-eqb}
+use borrow.Author.Tests.{le-leb, lt-leb, not-true, not-false}
 use Rattle.search.proofs.OpenRows.{CountedTo, counted-none, counted-more, counted-skip, counted-all}
 use Rattle.search.proofs.words.count_open.Statement.{statement}
 use Rattle.search.proofs.words.count_open.Tie as tie
@@ -22,17 +23,20 @@ abbrev μ-loop : tie.MeasureT-loop
 loop-holds : tie.Need-loop-holds Inv-loop μ-loop
 loop-holds c = (omega arith, counted-none _ _ _ (λ k h. rw (lt-leb _ _ h)))
 
-mul-if1 : tie.Need-mul-if1 Inv-loop μ-loop
-mul-if1 c = search needs
+mul-is-empty : tie.Need-mul-is-empty Inv-loop μ-loop
+mul-is-empty c = search needs
 
-add-if1 : tie.Need-add-if1 Inv-loop μ-loop
-add-if1 c = search needs
+add-is-empty : tie.Need-add-is-empty Inv-loop μ-loop
+add-is-empty c = search needs
 
-mul-if1-2 : tie.Need-mul-if1-2 Inv-loop μ-loop
-mul-if1-2 c = search needs
+mul-is-empty-2 : tie.Need-mul-is-empty-2 Inv-loop μ-loop
+mul-is-empty-2 c = search needs
 
-shared-slice-read-if1 : tie.Need-shared-slice-read-if1 Inv-loop μ-loop
-shared-slice-read-if1 c = search needs
+shared-slice-read-is-empty : tie.Need-shared-slice-read-is-empty Inv-loop μ-loop
+shared-slice-read-is-empty c = search needs
+
+is-empty-requires : tie.Need-is-empty-requires Inv-loop μ-loop
+is-empty-requires c κs = search needs
 
 add-count : tie.Need-add-count Inv-loop μ-loop
 add-count c = search needs
@@ -45,12 +49,12 @@ loop-less c = search needs
 
 loop-again : tie.Need-loop-again Inv-loop μ-loop
 loop-again c =
-    let l = c .before .before .before .loop in
-    let h = c .before .before .loop-test .taken in (
+    let l = c .before .before .before .before .loop in
+    let h = c .before .before .before .loop-test .taken in (
       omega arith,
       ⊎-elim
-          (λ w. rw (w .1) (counted-more _ _ _ _ h (rw (le-leb _ _ (l .inv .0), ne-eqb _ _ (w .0 .taken))) (l .inv .1)))
-          (λ w. rw (w .1) (counted-skip _ _ _ _ h (rw (le-leb _ _ (l .inv .0), eq-eqb _ _ (w .0 .left))) (l .inv .1)))
+          (λ w. rw (w .1) (counted-more _ _ _ _ h (rw (le-leb _ _ (l .inv .0), sym (c .before .is-empty .ensures) ∙ not-true _ (w .0 .taken))) (l .inv .1)))
+          (λ w. rw (w .1) (counted-skip _ _ _ _ h (rw (le-leb _ _ (l .inv .0), sym (c .before .is-empty .ensures) ∙ not-false _ (w .0 .left))) (l .inv .1)))
           (c .if1 .came),
     )
 
@@ -64,10 +68,11 @@ count-open-spec =
     Inv-loop
     μ-loop
     loop-holds
-    mul-if1
-    add-if1
-    mul-if1-2
-    shared-slice-read-if1
+    mul-is-empty
+    add-is-empty
+    mul-is-empty-2
+    shared-slice-read-is-empty
+    is-empty-requires
     add-count
     add-r
     loop-less

@@ -1,5 +1,6 @@
 -- `search::words::count_refined` meets its contract: the rows passed that would have a candidate are counted (`OpenRows`).
 -- Assumes nothing.
+use mathlib.Core.Path.{sym, _∙_}
 use mathlib.Core.Bool.{not, _&&_}
 use mathlib.Core.Logic.{⊎-elim}
 use Prim.Native.Nat.{_+_, _-_, _*_, _<_}
@@ -7,7 +8,7 @@ use native.Mathlib.Omega.{arith}
 use lib.Dec.{ltb, eqb}
 use lib.ListN.{getD}
 use borrow.Author.Needs.{needs}
-use borrow.Author.Tests.{lt-ltb, le-ltb, eq-eqb, ne-eqb}
+use borrow.Author.Tests.{lt-ltb, le-ltb, not-true, not-false}
 use Rattle.search.specs.Words.{metWord}
 use Rattle.search.proofs.OpenRows.{CountedTo, counted-none, counted-more, counted-skip, counted-all}
 use Rattle.search.proofs.words.count_refined.Statement.{statement}
@@ -70,6 +71,9 @@ shared-slice-read-meet-2 c = omega (arith, label-byte (c .before .before))
 meet-requires : tie.Need-meet-requires Inv-loop μ-loop
 meet-requires c κs = search needs
 
+is-empty-requires : tie.Need-is-empty-requires Inv-loop μ-loop
+is-empty-requires c κs = search needs
+
 add-count : tie.Need-add-count Inv-loop μ-loop
 add-count c = search needs
 
@@ -81,13 +85,13 @@ loop-less c = search needs
 
 loop-again : tie.Need-loop-again Inv-loop μ-loop
 loop-again c =
-    let l = c .before .before .before .before .before .before .loop in
-    let h = c .before .before .before .before .before .loop-test .taken in
-    let word = c .before .meet .ensures in (
+    let l = c .before .before .before .before .before .before .before .loop in
+    let h = c .before .before .before .before .before .before .loop-test .taken in
+    let word = c .before .before .meet .ensures in (
       omega arith,
       ⊎-elim
-          (λ w. rw (w .1) (counted-more _ _ _ _ h (rw (lt-ltb _ _ (l .inv .0), ← word, ne-eqb _ _ (w .0 .taken))) (l .inv .1)))
-          (λ w. rw (w .1) (counted-skip _ _ _ _ h (rw (lt-ltb _ _ (l .inv .0), ← word, eq-eqb _ _ (w .0 .left))) (l .inv .1)))
+          (λ w. rw (w .1) (counted-more _ _ _ _ h (rw (lt-ltb _ _ (l .inv .0), ← word, sym (c .before .is-empty .ensures) ∙ not-true _ (w .0 .taken))) (l .inv .1)))
+          (λ w. rw (w .1) (counted-skip _ _ _ _ h (rw (lt-ltb _ _ (l .inv .0), ← word, sym (c .before .is-empty .ensures) ∙ not-false _ (w .0 .left))) (l .inv .1)))
           (c .if1 .came),
     )
 
@@ -115,6 +119,7 @@ count-refined-spec =
     mul-meet-4
     shared-slice-read-meet-2
     meet-requires
+    is-empty-requires
     add-count
     add-r-2
     loop-less

@@ -1,7 +1,7 @@
 -- `search::words::refine` meets its contract: the words of the rows passed are stored, nothing else changed (`RowStores`),
 -- and those that are not empty are counted (`OpenRows`). What is read, at the parent's level, is never written.
 -- Assumes nothing.
-use mathlib.Core.Path.{_≡_, ap, _∙_}
+use mathlib.Core.Path.{_≡_, ap, _∙_, sym}
 use mathlib.Core.Bool.{not, _&&_}
 use mathlib.Core.Logic.{⊎-elim, inl}
 use Prim.Native.Nat.{ℕ, _+_, _-_, _*_, _≤_, _<_}
@@ -9,7 +9,7 @@ use native.Mathlib.Omega.{arith}
 use lib.Dec.{ltb, eqb}
 use lib.ListN.{getD}
 use borrow.Author.Needs.{needs}
-use borrow.Author.Tests.{lt-ltb, le-ltb, eq-eqb, ne-eqb}
+use borrow.Author.Tests.{lt-ltb, le-ltb, not-true, not-false}
 use Rattle.bitset.specs.Members.{meetOf}
 use Rattle.graph.specs.Graph.{place}
 use Rattle.search.specs.Words.{metWord}
@@ -91,6 +91,9 @@ mul-workspace-2 c = search needs
 slice-write-workspace : tie.Need-slice-write-workspace Inv-loop μ-loop
 slice-write-workspace c = search needs
 
+is-empty-requires : tie.Need-is-empty-requires Inv-loop μ-loop
+is-empty-requires c κs = search needs
+
 add-count : tie.Need-add-count Inv-loop μ-loop
 add-count c = search needs
 
@@ -102,18 +105,18 @@ loop-less c = search needs
 
 loop-again : tie.Need-loop-again Inv-loop μ-loop
 loop-again c =
-    let l = c .before .before .before .before .before .before .loop in
-    let h = c .before .before .before .before .before .loop-test .taken in
-    let a = c .before .before .before .before .before .before .before .before .before .before .args in
+    let l = c .before .before .before .before .before .before .before .loop in
+    let h = c .before .before .before .before .before .before .loop-test .taken in
+    let a = c .before .before .before .before .before .before .before .before .before .before .before .args in
     let mask = getD (a .masks .now) (256 * a .value + getD (a .edges .now) (place (a .row) (l .r)) 0) 0 in
     let later : a .row < l .r = omega arith in
-    let word : c .before .meet .result ≡ metWord (a .edges .now) (a .masks .now) (a .row) (a .pairs) (a .value) (a .workspace .now) (l .r) =
-    c .before .meet .ensures ∙ ap (λ (s : ℕ). meetOf s mask) (l .inv .1 .kept (64 * a .pairs + l .r) (inl (omega arith))) in (
+    let word : c .before .before .meet .result ≡ metWord (a .edges .now) (a .masks .now) (a .row) (a .pairs) (a .value) (a .workspace .now) (l .r) =
+    c .before .before .meet .ensures ∙ ap (λ (s : ℕ). meetOf s mask) (l .inv .1 .kept (64 * a .pairs + l .r) (inl (omega arith))) in (
       omega arith,
       filled-more _ _ _ _ _ _ _ _ (l .inv .1) (omega arith) (omega arith) word,
       ⊎-elim
-          (λ w. rw (w .1) (counted-more _ _ _ _ h (rw (lt-ltb _ _ later, ← word, ne-eqb _ _ (w .0 .taken))) (l .inv .2)))
-          (λ w. rw (w .1) (counted-skip _ _ _ _ h (rw (lt-ltb _ _ later, ← word, eq-eqb _ _ (w .0 .left))) (l .inv .2)))
+          (λ w. rw (w .1) (counted-more _ _ _ _ h (rw (lt-ltb _ _ later, ← word, sym (c .before .is-empty .ensures) ∙ not-true _ (w .0 .taken))) (l .inv .2)))
+          (λ w. rw (w .1) (counted-skip _ _ _ _ h (rw (lt-ltb _ _ later, ← word, sym (c .before .is-empty .ensures) ∙ not-false _ (w .0 .left))) (l .inv .2)))
           (c .if1 .came),
     )
 
@@ -153,6 +156,7 @@ refine-spec =
     add-workspace-2
     mul-workspace-2
     slice-write-workspace
+    is-empty-requires
     add-count
     add-r-2
     loop-less
