@@ -7,8 +7,9 @@ use native.Mathlib.Nat.{not-suc-le-zero, le-of-suc-le-suc, le-refl, le-of-lt, eq
 use native.Mathlib.Nat.{mod-one, mod-eq-of-lt, pow-suc, lt-of-lt-of-le, add-comm, one-mul}
 use native.Mathlib.Numerals.{add-one, one-add}
 use native.Mathlib.Omega.{arith}
-use borrow.Author.Tests.{ne-eqb}
-use lib.Dec.{eqb}
+use native.Mathlib.Decide.{decLt}
+use borrow.Author.Tests.{ne-eqb, lt-ltb, le-ltb}
+use lib.Dec.{ltb, eqb}
 use lib.Pow.{pow-pos, pow-mono, pow-lt, high, low, mod-pow-add}
 use lib.Bits.{bitAnd, bitOr, and-lt, or-lt, or-shifted-r}
 use Rattle.bitset.specs.Members.{member, setOf, meetOf, insert}
@@ -122,3 +123,13 @@ setOf-add t i h e =
 pub setOf-skip : (t : ℕ → Bool) (i : ℕ) → t i ≡ false → setOf i t ≡ setOf (i + 1) t
 unfolding setOf
 setOf-skip t i e = rw (add-one, e) (omega arith)
+
+-- The set of the numbers below n that pass, as a set of the numbers below 64.
+pub setOf-within : (n : ℕ) (t : ℕ → Bool) → n ≤ 64 → setOf n t ≡ setOf 64 (λ v. ltb v n && t v)
+setOf-within n t h =
+    set-ext 64 (setOf-word n t h) (setOf-lt 64 (λ v. ltb v n && t v))
+    (λ i l. same i (decLt i n) ∙ sym (member-setOf 64 (λ v. ltb v n && t v) i l))
+  where
+    same : (i : ℕ) → Dec (i < n) → member (setOf n t) i ≡ ltb i n && t i
+    same i (yes below) = rw (lt-ltb i n below) (member-setOf n t i below)
+    same i (no above) = rw (le-ltb i n (omega arith)) (member-setOf-above n t i (omega arith))

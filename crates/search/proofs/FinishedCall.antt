@@ -1,8 +1,8 @@
 -- "A finished search takes any allowance and is unchanged" (01, "Bookmark and calls"), and allowance 0 changes no checkpoint.
-use mathlib.Core.Path.{_≡_, refl, ap, _∙_}
+use mathlib.Core.Path.{_≡_, ap, _∙_}
 use mathlib.Core.Bool.{Bool, true, cond, _||_}
 use mathlib.Core.List.{List, _++_}
-use Prim.Native.Nat.{ℕ, zero, suc, _+_, _≤_}
+use Prim.Native.Nat.{ℕ, zero-le, _+_, _≤_}
 use native.Mathlib.Omega.{arith}
 use lib.ListN.{length, drop, replicate}
 use borrow.Author.Tests.{le-leb}
@@ -10,21 +10,20 @@ use Rattle.graph.specs.Answers.{Answer, passed, accepted}
 use Rattle.mapping.specs.Problem.{Problem, SoundProblem}
 use Rattle.mapping.proofs.ProblemPasses.{problem-passes}
 use Rattle.search_tree.specs.Rules.{Rules, rulesOf}
-use Rattle.search_tree.specs.Walk.{State, cutoff, visit}
+use Rattle.search_tree.specs.Walk.{State, cutoff}
 use Rattle.search_tree.specs.Ceiling.{ceiling}
-use Rattle.search_tree.proofs.Steps.{visit-finished}
 use Rattle.search.specs.declared.Checkpoint.{Checkpoint}
 use Rattle.search.specs.Checkpoints.{checkpointOf, stateOf, InShape}
 use Rattle.search.specs.Call.{Called, visits, wordsNeeded, arrive, advance, onSound, searchCall}
 use Rattle.search.specs.ThirdProperty.{heldIn}
+use Rattle.search.proofs.RunTurn.{visits-finished as visits-stay}
 use Rattle.search.proofs.ShapeTest.{shape-test}
 use Rattle.search.proofs.CheckpointState.{checkpoint-of-state}
 
 -- Visits leave a finished search as it is.
 pub visits-finished : (R : Rules) (minimum k : ℕ) (s : State) → s .finished ≡ true → visits R minimum k s ≡ s
 unfolding visits
-visits-finished R minimum zero s end = refl
-visits-finished R minimum (suc k) s end = ap (visit R minimum) (visits-finished R minimum k s end) ∙ visit-finished R minimum s end
+visits-finished R minimum k s end = visits-stay R minimum s 0 k end zero-le
 
 -- a finished state's ceiling is its cutoff
 ceiling-finished : (R : Rules) (minimum : ℕ) (s : State) → s .finished ≡ true → ceiling R minimum s ≡ cutoff minimum (s .held)

@@ -12,19 +12,9 @@ use lib.ListN.{length, getD, set, replicate, length-set, length-replicate, getD-
 use lib.Seq.{getD-set-same, getD-set-other}
 use borrow.Author.Tests.{lt-ltb, le-ltb, eq-eqb, ne-eqb}
 use Rattle.bitset.specs.Members.{setOf, member, insert}
-use Rattle.bitset.proofs.SetOf.{setOf-word, setOf-lt, set-ext, setOf-congr, member-setOf, member-setOf-above, setOf-add, setOf-skip}
+use Rattle.bitset.proofs.SetOf.{setOf-word, setOf-lt, set-ext, setOf-congr, member-setOf, member-setOf-above, setOf-add, setOf-skip, setOf-within}
 use Rattle.graph.specs.Graph.{Graph, edge}
 use Rattle.search.specs.Words.{maskOf, MaskRow}
-
--- The set of the numbers below n that pass, as a set of the numbers below 64.
-pub setOf-within : (n : ℕ) (t : ℕ → Bool) → n ≤ 64 → setOf n t ≡ setOf 64 (λ v. ltb v n && t v)
-setOf-within n t h =
-    set-ext 64 (setOf-word n t h) (setOf-lt 64 (λ v. ltb v n && t v))
-    (λ i l. same i (decLt i n) ∙ sym (member-setOf 64 (λ v. ltb v n && t v) i l))
-  where
-    same : (i : ℕ) → Dec (i < n) → member (setOf n t) i ≡ ltb i n && t i
-    same i (yes below) = rw (lt-ltb i n below) (member-setOf n t i below)
-    same i (no above) = rw (le-ltb i n (omega arith)) (member-setOf-above n t i (omega arith))
 
 -- u is another vertex than w, with an edge of label k to it
 abbrev pub joined : Graph → ℕ → ℕ → ℕ → Bool

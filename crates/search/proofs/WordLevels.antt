@@ -13,7 +13,7 @@ use lib.ListN.{length, getD, take, drop, take-append-drop, List·getD-eq-default
 use lib.Seq.{length-take-le, take-suc, take-take, take-at}
 use borrow.Author.Tests.{lt-ltb, le-ltb, ne-eqb}
 use Rattle.bitset.specs.Members.{member, setOf}
-use Rattle.bitset.proofs.SetOf.{setOf-lt, setOf-word, member-setOf, member-setOf-above, setOf-congr, set-ext, meetOf-setOf}
+use Rattle.bitset.proofs.SetOf.{setOf-lt, setOf-word, member-setOf, member-setOf-above, setOf-congr, set-ext, meetOf-setOf, setOf-within}
 use Rattle.graph.specs.Below.{allBelow}
 use Rattle.graph.specs.Graph.{graph, edge}
 use Rattle.mapping.specs.Problem.{Problem, SoundProblem, allowed, consistent}
@@ -75,16 +75,6 @@ size-take-le path j k h =
     let whole = ap size (take-append-drop j (take k path)) in
     let front = ap size (take-take j k path h) in
     omega (arith, size-append (take j (take k path)) (drop j (take k path)))
-
--- The set of the numbers below k is, as a word, the set of those numbers below 64 that are below k.
-pub setOf-within : (k : ℕ) (t : ℕ → Bool) → k ≤ 64 → setOf k t ≡ setOf 64 (λ v. ltb v k && t v)
-setOf-within k t h =
-    set-ext 64 (setOf-word k t h) (setOf-lt 64 (λ v. ltb v k && t v))
-    (λ i l. go i (decLt i k) ∙ sym (member-setOf 64 (λ v. ltb v k && t v) i l))
-  where
-    go : (i : ℕ) → Dec (i < k) → member (setOf k t) i ≡ (ltb i k && t i)
-    go i (yes l) = rw (lt-ltb i k l) (member-setOf k t i l)
-    go i (no n) = rw (le-ltb i k (omega arith)) (member-setOf-above k t i (omega arith))
 
 module _ (P : Problem) where
   -- A left-out row changes no word.
