@@ -2,14 +2,18 @@
 -- it holds the best one (01, the properties of an answer).
 use mathlib.Core.Path.{_≡_, refl, subst}
 use mathlib.Core.Logic.{_↔_}
-use mathlib.Core.List.{List}
+use mathlib.Core.List.{List, _++_}
 use mathlib.Core.Option.{Option, some}
 use Prim.Native.Nat.{ℕ, _≤_, _<_}
 use native.Mathlib.Omega.{arith}
+use lib.ListN.{length, length-append}
+use lib.Seq.{take-append-seam}
+use Rattle.branch_bound.proofs.Solutions.{under-bound}
 use Rattle.mapping.specs.Problem.{Problem, SoundProblem}
 use Rattle.mapping.specs.Common.{size, Common}
 use Rattle.mapping.proofs.Consistent.{consistent-facts}
 use Rattle.search_tree.specs.Rules.{Regular, rulesOf}
+use Rattle.search_tree.specs.Node.{upperBound}
 use Rattle.search_tree.specs.StepLimit.{stepLimit}
 use Rattle.search_tree.specs.Walk.{after, IsTotal}
 use Rattle.search_tree.specs.Ceiling.{ceiling}
@@ -18,6 +22,7 @@ use Rattle.search_tree.proofs.Weight.{weight-root}
 use Rattle.search_tree.proofs.LawfulTree.{lawful}
 use Rattle.search_tree.proofs.Steps.{total-exists}
 use Rattle.search_tree.proofs.Shape.{HeldShape}
+use Rattle.search_tree.proofs.LastNodes.{under-beginning}
 use Rattle.search_tree.proofs.ReachedCommon.{full-common, last-common}
 use Rattle.search_tree.proofs.Best.{best-same, best-unique}
 use Rattle.search_tree.proofs.Solutions.{Solution, held-candidate, solution-below, total-best}
@@ -36,6 +41,14 @@ module _ (P : Problem) (sound : SoundProblem P) where
     λ s. last-common P sound l .0 (s .under),
     λ c. record { under = last-common P sound l .1 c; admitted = refl },
   )
+
+  -- A common subgraph that begins with a path has at most the path's upper bound of pairs.
+  pub prefix-bound : (path rest : List ℕ) → Common P (path ++ rest) → size (path ++ rest) ≤ upperBound (rulesOf P) path
+  prefix-bound path rest c =
+      let full = full-common P sound (path ++ rest) .1 c in
+      let within : length path ≤ length (path ++ rest) = simp length-append (omega arith) in
+      let under = under-beginning (rulesOf P) (full .0) (full .1) (length path) within in
+      under-bound (lawful (rulesOf P) rules-regular) (rw take-append-seam at under)
 
   module _ (minimum : ℕ) where
     -- A held matching is in shape exactly when it is a common subgraph that reaches the minimum.
