@@ -27,7 +27,7 @@ pub enum Soundness {
     Flawed(Flaw),
 }
 
-// Why a command of graph bytes cannot stand where it does.
+// Why a command of graph bytes, or a byte after the end, cannot stand where it does.
 pub enum Fault {
     Truncated,
     UnknownCommand,

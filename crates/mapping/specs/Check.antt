@@ -23,7 +23,7 @@ finding (Fault answer) = some (mappingOutcome answer)
 abbrev pub EntriesBelow : List ℕ → ℕ → Type 0
 EntriesBelow l v = (u : ℕ) → u < v → (getD l u 0 ≡ unmapped → ⊥) → getD l u 0 < 64
 
--- row v on w against the earlier row u, on the entry there; "left-out rows are passed over"
+-- row v against the earlier row u; "left-out rows are passed over"
 abbrev pub clash : Problem → List ℕ → ℕ → ℕ → Option Outcome
 clash P l v u =
     cond (eqb (getD l u 0) unmapped) none

@@ -1,6 +1,6 @@
--- One search call, by 01's table in its order, and a list of calls that resume one another: 01, "Bookmark and calls", second and third paragraph.
+-- One search call, by 01's table in its order: 01, "Bookmark and calls", second paragraph, and the rows "Bookmark" and "Search call" of the refusals.
 use mathlib.Core.Bool.{Bool, cond, _||_}
-use mathlib.Core.List.{List, [], _∷_, _++_}
+use mathlib.Core.List.{List, _++_}
 use Prim.Native.Nat.{ℕ, zero, suc, _+_, _^_}
 use lib.Dec.{leb, ltb}
 use lib.ListN.{length, drop, replicate}

@@ -17,7 +17,7 @@ ghost use Rattle.mapping.specs.Problem.{Problem, problem, SoundProblem};
 ghost use Rattle.mapping.specs.Common.{size};
 ghost use Rattle.search_tree.specs.Rules.{rulesOf};
 ghost use Rattle.search_tree.specs.Walk.{visit};
-ghost use Rattle.search.specs.Checkpoints.{freshCheckpoint, stateOf, InShape};
+ghost use Rattle.search.specs.Checkpoints.{checkpointOf, freshCheckpoint, stateOf, InShape};
 ghost use Rattle.search.specs.Walking.{Setting, AtNode, Resumes, Visited};
 ghost use Rattle.search.specs.Call.{advance as advanced, countFits, searchCall};
 ghost use Rattle.search.specs.Answers.{calledOf};
@@ -95,12 +95,13 @@ impl Checkpoint {
         store::store(minimum, end, path, incumbent, order)
     }
 
-    // One visit turns a checkpoint into the next.
+    // One visit turns a checkpoint into the next, and leaves the words of the next path's ancestors.
     fn visit(self, order: usize, edges: &[u8], masks: &[u64], workspace: &mut [u64]) -> Checkpoint
         requires { ⌜ Resumes order (now edges) (now masks) self (now workspace) ⌝ }
         requires { ⌜ T (countFits self 1) ⌝ }
         ensures { λ r. ⌜ ((P : Problem) → Setting P order (now (edges .entry)) (now (masks .entry)) → InShape P self → AtNode P (self .path) (self .depth) (size (take (self .depth) (self .path))) (now (workspace .entry))
-            → stateOf order r ≡ visit (rulesOf P) (self .minimum) (stateOf order self)) ⌝ }
+            → (r ≡ checkpointOf (self .minimum) (visit (rulesOf P) (self .minimum) (stateOf order self)))
+            × AtNode P (r .path) (r .depth) (size (take (r .depth) (r .path))) (now (workspace .exit))) ⌝ }
     {
         self.visits(1, order, edges, masks, workspace)
     }

@@ -10,7 +10,7 @@ ghost use Rattle.bitset.specs.Members.{setOf};
 ghost use Rattle.graph.specs.Graph.{graph};
 ghost use Rattle.search.specs.Words.{Masks, MaskRow, RootWords, Refined, openRows, meetRows};
 
-// The masks of the new vertex w: for each of its edges, w's neighbour is added to the mask of the edge's label.
+// The masks of the new vertex w: each other vertex v is added to the mask of the label of the edge of w and v, null edges too.
 pub fn mask_row(order: usize, edges: &[u8], w: usize, masks: &mut [u64])
     requires { ⌜ (length (now edges) ≡ 4096) × (length (now masks) ≡ 16384) × (order ≤ 64) × (w < order) ⌝ }
     requires { ⌜ ((k : ℕ) → k < 256 → getD (now masks) (256 * w + k) 0 ≡ 0) ⌝ }

@@ -56,7 +56,7 @@ Ends P minimum k held top =
     × (walk P minimum k .finished ≡ false)
     × (fence P minimum (suc k) ≡ top)
 
-pub marked-examples :
+pub walk-examples :
     -- P, floor 1: 1 0 255, 6 steps, fence 3
     Ends pair 1 5 (some (1 ∷ 0 ∷ 255 ∷ [])) 3
     -- P, floor 1, allowance 3: nothing held, fence 3
@@ -78,7 +78,7 @@ pub marked-examples :
     -- 7, 9 linked by 1 against 7, 9 unlinked, floor 0: 0 255, 4 steps, fence 2
     × Ends linkedOnUnlinked 0 3 (some (0 ∷ 255 ∷ [])) 2
 unfolding reading readFrom judge allBelow sumBelow runBelow allowed consistent mappedFrom candidate candidates upperBound choices children choicesAfter laterSiblings openNodes visitPath visit after topBound ceiling
-marked-examples = (
+walk-examples = (
   (refl, refl, refl),
   refl,
   refl,

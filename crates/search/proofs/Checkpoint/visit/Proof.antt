@@ -1,7 +1,6 @@
--- `search::Checkpoint::visit` meets its contract: the checkpoint after one visit stands for the state after it (`ResumedWalk`).
+-- `search::Checkpoint::visit` meets its contract: it is the checkpoint of the state after one visit.
 -- Assumes nothing.
 use Rattle.search.specs.Call.{visits}
-use Rattle.search.proofs.ResumedWalk.{visited-state}
 use Rattle.search.proofs.Checkpoint.visit.Statement.{statement}
 use Rattle.search.proofs.Checkpoint.visit.Tie as tie
 
@@ -15,7 +14,7 @@ returns : tie.Need-returns
 unfolding visits
 returns c P setting shape node =
     let visited = c .before .before .visits .ensures P setting shape node in
-    rw (← setting .order-is) (visited-state (setting .sound) shape (node .path-length) visited)
+    (rw (← setting .order-is) (visited .checkpoint-is), visited .node)
 
 pub visit-spec : {M : Type 1} → statement M
 visit-spec = tie.close (tie.spec visits-requires same-length returns)
