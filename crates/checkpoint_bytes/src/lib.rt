@@ -1,0 +1,1 @@
+// Checkpoints as bytes: saved and loaded.
