@@ -1,5 +1,5 @@
 -- What a judged command does to the graph: which table it leaves alone, how many bytes it takes, and that the order stays within 64.
-use mathlib.Core.Path.{_≡_, refl, ap}
+use mathlib.Core.Path.{_≡_, refl}
 use mathlib.Core.Bool.{Bool, true, false, cond}
 use Prim.Native.Nat.{ℕ, _+_, _≤_, _<_, max}
 use native.Mathlib.Omega.{arith}
@@ -11,7 +11,7 @@ use Rattle.graph.specs.declared.commands.Command.{Command}
 use Rattle.graph.specs.declared.commands.Command.the-variants.{Vertex, Edge, End, Truncated, Unknown}
 use Rattle.graph.specs.Graph.{Graph, edge}
 use Rattle.graph.specs.Commands.{decode, width}
-use Rattle.graph.specs.Reading.{Judged, grows, ends, faulty, judge, after, withVertex, withEdge}
+use Rattle.graph.specs.Reading.{grows, faulty, judge, after, withVertex, withEdge}
 
 -- A vertex leaves the edges alone.
 pub vertex-keeps-edges : (g : Graph) (label : ℕ) → (after g (judge g (Vertex label))) .edges ≡ g .edges

@@ -9,7 +9,7 @@ use lib.ListN.{length, length-append}
 use Rattle.graph.specs.Graph.{Graph, edge}
 use Rattle.graph.specs.Below.{sumBelow, runBelow}
 use Rattle.graph.specs.Writing.{vertexBytes, listed, edgeBytes, rowBytes, graphBytes, rowLinks, links}
-use Rattle.graph.proofs.Below.{length-runBelow, length-runBelow-part, sumBelow-le, sumBelow-more, sumBelow-same, sumBelow-mul, count-above}
+use Rattle.graph.proofs.Below.{length-runBelow, sumBelow-le, sumBelow-more, sumBelow-same, sumBelow-mul, count-above}
 
 -- An edge takes 4 bytes where it is written, and none elsewhere.
 pub length-edgeBytes : (g : Graph) (a b : ℕ) → length (edgeBytes g a b) ≡ 4 * cond (listed g a b) 1 0

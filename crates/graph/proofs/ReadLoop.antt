@@ -1,22 +1,17 @@
 -- One turn of the loop that reads commands, on plain values: what a command that stands, the end and a fault make of the reading so far.
-use mathlib.Core.Path.{_≡_, refl, sym, ap, ap₂, _∙_, subst}
-use mathlib.Core.Bool.{true, false, cond}
+use mathlib.Core.Path.{_≡_, sym, ap, ap₂, _∙_, subst}
 use mathlib.Core.List.{List, [], _∷_}
 use Prim.Native.Nat.{ℕ, _+_, _-_, _≤_, _<_}
 use native.Mathlib.Omega.{arith}
-use native.Mathlib.Numerals.{add-one}
-use lib.ListN.{length, drop, getD, replicate, length-drop, length-replicate}
+use lib.ListN.{length, drop, replicate, length-drop}
 use lib.Seq.{drop-drop}
-use lib.Dec.{leb, eqb}
-use borrow.Author.Tests.{leb-true}
 use Rattle.graph.specs.declared.commands.Command.{Command}
-use Rattle.graph.specs.declared.commands.Command.the-variants.{Vertex, Edge, End, Truncated, Unknown}
 use Rattle.graph.specs.declared.commands.Step.the-variants.{Grown, Ended, Faulty}
 use Rattle.graph.specs.declared.Fault.{Fault}
 use Rattle.graph.specs.Graph.{Graph, graph, emptyGraph}
 use Rattle.graph.specs.Answers.{faultNumber}
 use Rattle.graph.specs.Commands.{decode, width}
-use Rattle.graph.specs.Reading.{Judged, grows, ends, faulty, judge, judged, after, Reading, refuseAt, finish, onJudged, readFrom}
+use Rattle.graph.specs.Reading.{Judged, grows, ends, faulty, judge, judged, after, refuseAt, finish, onJudged}
 use Rattle.graph.proofs.Fuel.{readAt, read-step}
 use Rattle.graph.proofs.Judge.{after-order, decode-fits}
 

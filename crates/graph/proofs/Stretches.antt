@@ -1,5 +1,5 @@
 -- Stretches of graph bytes that make one graph of another: a vertex, an edge, one stretch after the other, and a run of stretches.
-use mathlib.Core.Path.{_≡_, ap, _∙_}
+use mathlib.Core.Path.{_≡_, _∙_}
 use mathlib.Core.List.{List, [], _∷_, _++_, append-assoc}
 use Prim.Native.Nat.{ℕ, zero, suc, _+_, _≤_, _<_, max}
 use native.Mathlib.Nat.{add-zero, add-assoc}

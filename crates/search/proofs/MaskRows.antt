@@ -5,14 +5,14 @@ use mathlib.Core.Logic.{_⊎_, ⊎-elim, inl, inr}
 use mathlib.Core.List.{List}
 use Prim.Native.Nat.{ℕ, _+_, _*_, _≤_, _<_}
 use native.Mathlib.Nat.{eq-or-lt-of-le}
-use native.Mathlib.Decide.{decLt, ℕ-discrete}
+use native.Mathlib.Decide.{ℕ-discrete}
 use native.Mathlib.Omega.{arith}
 use lib.Dec.{ltb, eqb}
 use lib.ListN.{length, getD, set, replicate, length-set, length-replicate, getD-replicate}
 use lib.Seq.{getD-set-same, getD-set-other}
-use borrow.Author.Tests.{lt-ltb, le-ltb, eq-eqb, ne-eqb}
-use Rattle.bitset.specs.Members.{setOf, member, insert}
-use Rattle.bitset.proofs.SetOf.{setOf-word, setOf-lt, set-ext, setOf-congr, member-setOf, member-setOf-above, setOf-add, setOf-skip, setOf-within}
+use borrow.Author.Tests.{eq-eqb, ne-eqb}
+use Rattle.bitset.specs.Members.{setOf, insert}
+use Rattle.bitset.proofs.SetOf.{setOf-congr, setOf-add, setOf-skip, setOf-within}
 use Rattle.graph.specs.Graph.{Graph, edge}
 use Rattle.search.specs.Words.{maskOf, MaskRow}
 

@@ -13,7 +13,7 @@ use Rattle.bitset.specs.declared.Least.the-variants.{Member, Empty}
 use Rattle.bitset.proofs.LeastBelow.{leastAbove-Member}
 use Rattle.mapping.specs.Problem.{Problem, SoundProblem}
 use Rattle.mapping.specs.Common.{unmapped, size}
-use Rattle.mapping.proofs.Size.{counted, counted-mapped, size-nil, size-max}
+use Rattle.mapping.proofs.Size.{counted, counted-mapped, size-nil}
 use Rattle.search_tree.specs.Rules.{rulesOf}
 use Rattle.search_tree.specs.Node.{extend, laterSiblings}
 use Rattle.search_tree.proofs.Candidates.{candidate-value}
@@ -22,8 +22,9 @@ use Rattle.search_tree.proofs.OpenNodes.{laterSiblings-append}
 use Rattle.search_tree.proofs.Reached.{reached-root, reached-take}
 use Rattle.search.specs.Words.{Words}
 use Rattle.search.specs.Walking.{AtNode, Retreats}
-use Rattle.search.proofs.WordLevels.{take-extend, size-extend, size-left-out, words-shorter}
+use Rattle.search.proofs.WordLevels.{size-left-out, words-shorter}
 use Rattle.search.proofs.WordChoices.{next-taken, siblings-taken, siblings-last, siblings-left-out, siblings-root}
+use Rattle.search.proofs.NodeWords.{size-take-max, size-mapped}
 use Rattle.search.proofs.StoredRow.{stored-prefix, stored-node}
 
 -- The invariant: no row of the path from k up to depth is a pair, so none has a later sibling.
@@ -49,11 +50,7 @@ passed-more {path} {depth} {pairs} {k} {row} passed top e = record {
 pub pairs-before : {path : List ℕ} {depth pairs k row : ℕ} → Passed path depth pairs k → k ≡ row + 1 → row < length path
     → getD path row 0 ≢ unmapped → (pairs ≡ size (take row path) + 1) × (size (take row path) ≤ row)
 pairs-before {path} {depth} {pairs} {k} {row} passed top inside mapped =
-    let longer : size (take k path) ≡ size (extend (take row path) (getD path row 0)) = rw (top, take-extend path row inside) in
-    let one = counted-mapped (getD path row 0) mapped in
-    let few = size-max (take row path) in
-    let short = length-take-le row path (omega arith) in
-    omega (arith, size-extend (take row path) (getD path row 0), passed .pairs-are)
+    (passed .pairs-are ∙ rw top (size-mapped path row inside mapped), size-take-max path row)
 
 module _ {P : Problem} (sound : SoundProblem P) {path ws : List ℕ} {depth pairs : ℕ} (node : AtNode P path depth pairs ws) where
   own-inside : depth ≤ length path

@@ -11,9 +11,9 @@ use native.Mathlib.Omega.{arith}
 use lib.Dec.{ltb, eqb}
 use lib.ListN.{length, getD, take, drop, take-append-drop, List·getD-eq-default}
 use lib.Seq.{length-take-le, take-suc, take-take, take-at}
-use borrow.Author.Tests.{lt-ltb, le-ltb, ne-eqb}
-use Rattle.bitset.specs.Members.{member, setOf}
-use Rattle.bitset.proofs.SetOf.{setOf-lt, setOf-word, member-setOf, member-setOf-above, setOf-congr, set-ext, meetOf-setOf, setOf-within}
+use borrow.Author.Tests.{lt-ltb, ne-eqb}
+use Rattle.bitset.specs.Members.{member}
+use Rattle.bitset.proofs.SetOf.{member-setOf, member-setOf-above, setOf-congr, meetOf-setOf, setOf-within}
 use Rattle.graph.specs.Below.{allBelow}
 use Rattle.graph.specs.Graph.{graph, edge}
 use Rattle.mapping.specs.Problem.{Problem, SoundProblem, allowed, consistent}

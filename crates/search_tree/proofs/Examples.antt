@@ -5,7 +5,7 @@ use mathlib.Core.List.{List, [], _∷_}
 use mathlib.Core.Option.{Option, none, some}
 use Prim.Native.Nat.{ℕ, suc}
 use lib.ListN.{replicate}
-use Rattle.graph.specs.Graph.{Graph, graph, edge}
+use Rattle.graph.specs.Graph.{Graph, graph}
 use Rattle.graph.specs.Answers.{Answer, passed, accepted, refused, refusedAt}
 use Rattle.graph.specs.Below.{allBelow, sumBelow, runBelow}
 use Rattle.graph.specs.Reading.{Reading, reading, readFrom, judge}

@@ -1,6 +1,5 @@
 -- `graph::tables_fit` meets its contract: at each return the tests that led there say what `tablesFit` computes to.
 -- Assumes nothing.
-use borrow.Author.Needs.{needs}
 use borrow.Author.Tests.{eq-eqb, ne-eqb}
 use Rattle.graph.proofs.tables_fit.Statement.{statement}
 use Rattle.graph.proofs.tables_fit.Tie as tie
