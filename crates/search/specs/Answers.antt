@@ -1,9 +1,11 @@
--- What a search call's answer says in 01's terms: the ceiling, or a refusal's number (01, "Refusals by place of checking").
+-- What each answer of this crate says in 01's terms: the ceiling, or a refusal's number (01, "Refusals by place of checking").
 use mathlib.Core.List.{List}
 use Prim.Native.Nat.{ℕ}
-use Rattle.graph.specs.Answers.{Answer, accepted, refused, flawNumber}
+use Rattle.graph.specs.Answers.{Answer, passed, accepted, refused, flawNumber}
 use Rattle.search.specs.declared.SearchAnswer.{SearchAnswer}
 use Rattle.search.specs.declared.SearchAnswer.the-variants.{Ceiling, Flawed, OutOfShape, FewWords, ManySteps}
+use Rattle.search.specs.declared.ShapeAnswer.{ShapeAnswer}
+use Rattle.search.specs.declared.ShapeAnswer.the-variants as shape
 use Rattle.search.specs.declared.Searched.{Searched}
 use Rattle.search.specs.Call.{Called}
 
@@ -16,3 +18,8 @@ searchAnswer ManySteps = refused 16
 
 abbrev pub calledOf : Searched → List ℕ → Called
 calledOf r workspace = record { answer = searchAnswer (r .answer); checkpoint = r .checkpoint; workspace = workspace }
+
+abbrev pub shapeAnswer : ShapeAnswer → Answer
+shapeAnswer shape.InShape = passed
+shapeAnswer (shape.Flawed f) = refused (flawNumber f)
+shapeAnswer shape.OutOfShape = refused 14

@@ -1,4 +1,5 @@
 pub mod Checkpoints
+pub mod Checking
 pub mod Call
 pub mod Calls
 pub mod ThirdProperty

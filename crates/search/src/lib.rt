@@ -20,7 +20,8 @@ ghost use Rattle.search_tree.specs.Walk.{visit};
 ghost use Rattle.search.specs.Checkpoints.{checkpointOf, freshCheckpoint, stateOf, InShape};
 ghost use Rattle.search.specs.Walking.{Setting, AtNode, Resumes, Visited};
 ghost use Rattle.search.specs.Call.{advance as advanced, countFits, searchCall};
-ghost use Rattle.search.specs.Answers.{calledOf};
+ghost use Rattle.search.specs.Checking.{checkpointAnswer};
+ghost use Rattle.search.specs.Answers.{calledOf, shapeAnswer};
 
 // 01 calls a checkpoint a bookmark, the minimum a floor, the incumbent the held matching.
 pub struct Checkpoint {
@@ -40,6 +41,13 @@ pub enum SearchAnswer {
     OutOfShape,
     FewWords,
     ManySteps,
+}
+
+// The answer of `check_checkpoint`.
+pub enum ShapeAnswer {
+    InShape,
+    Flawed(Flaw),
+    OutOfShape,
 }
 
 // The answer, and the checkpoint after the call.
@@ -104,6 +112,44 @@ impl Checkpoint {
             × AtNode P (r .path) (r .depth) (size (take (r .depth) (r .path))) (now (workspace .exit))) ⌝ }
     {
         self.visits(1, order, edges, masks, workspace)
+    }
+}
+
+// Whether the checkpoint is in shape for the two graphs.
+pub fn check_checkpoint(
+    old_order: usize,
+    old_labels: &[u8],
+    old_edges: &[u8],
+    new_order: usize,
+    new_labels: &[u8],
+    new_edges: &[u8],
+    checkpoint: Checkpoint,
+) -> ShapeAnswer
+    ensures { λ r. ⌜ shapeAnswer r ≡ checkpointAnswer (problem (graph «old_order» (now («old_labels» .entry)) (now («old_edges» .entry))) (graph «new_order» (now («new_labels» .entry)) (now («new_edges» .entry)))) checkpoint ⌝ }
+{
+    match mapping::check_problem(
+        old_order,
+        old_labels,
+        old_edges,
+        new_order,
+        new_labels,
+        new_edges,
+    ) {
+        Soundness::Flawed(flaw) => ShapeAnswer::Flawed(flaw),
+        Soundness::Sound => {
+            if !shape::in_shape(
+                old_order,
+                old_labels,
+                old_edges,
+                new_order,
+                new_labels,
+                new_edges,
+                checkpoint,
+            ) {
+                return ShapeAnswer::OutOfShape;
+            }
+            ShapeAnswer::InShape
+        }
     }
 }
 
