@@ -7,8 +7,10 @@ use Prim.Native.Nat.{ℕ}
 use Rattle.graph.specs.Below.{runBelow}
 use Rattle.search.specs.declared.Checkpoint.{Checkpoint}
 use Rattle.search.specs.Checkpoints.{padded}
-use Rattle.checkpoint_bytes.specs.Form.{faultFrom, formFault}
-use Rattle.checkpoint_bytes.specs.Saving.{littleEndian, fromLittle, checkpointBytes, said}
+use Rattle.little_endian.specs.LittleEndian.{littleEndian, fromLittle}
+use Rattle.checkpoint_bytes.specs.Form.{next, faultFrom, formFault}
+use Rattle.checkpoint_bytes.specs.Saving.{headerBytes, checkpointBytes}
+use Rattle.checkpoint_bytes.specs.Loading.{said}
 
 -- three old vertices, 258 steps, depth 2, a mapping held
 abbrev midway : Checkpoint
@@ -40,5 +42,5 @@ pub small-cases :
     × (formFault 1 (head ++ (1 ∷ 0 ∷ [])) ≡ some 13)
     × (formFault 1 (head ++ (0 ∷ 0 ∷ 0 ∷ [])) ≡ some 14)
     × (formFault 1 (head ++ (0 ∷ 19 ∷ [])) ≡ some 14)
-unfolding checkpointBytes littleEndian fromLittle said runBelow faultFrom
+unfolding headerBytes checkpointBytes littleEndian fromLittle said runBelow next faultFrom
 small-cases = (refl, refl, refl, refl, refl, refl, refl, refl, refl, refl)

@@ -1,50 +1,39 @@
--- The bytes of a checkpoint, and what bytes in the form say: 01, "Bookmark and calls", last paragraph.
+-- The bytes of a checkpoint, and saving them into a lent buffer: 01, "Bookmark and calls", last paragraph, and the row "Output" of the refusals.
 use mathlib.Core.Bool.{Bool, cond}
 use mathlib.Core.List.{List, [], _∷_, _++_}
-use Prim.Native.Nat.{ℕ, zero, suc, _+_, _-_, _*_, _/_, _%_}
-use lib.Dec.{leb, eqb}
-use lib.ListN.{length, getD, take, drop}
+use Prim.Native.Nat.{ℕ, _+_}
+use lib.ListN.{getD}
+use Rattle.little_endian.specs.LittleEndian.{littleEndian}
 use Rattle.graph.specs.Below.{runBelow}
+use Rattle.graph.specs.Writing.{Writing, fill, onSound}
+use Rattle.mapping.specs.Problem.{Problem}
 use Rattle.search.specs.declared.Checkpoint.{Checkpoint}
-use Rattle.search.specs.Checkpoints.{padded}
-use Rattle.checkpoint_bytes.specs.Form.{holdsOf}
+use Rattle.search.specs.Checking.{checkpointAnswer}
+use Rattle.checkpoint_bytes.specs.declared.SaveAnswer.{SaveAnswer}
+use Rattle.checkpoint_bytes.specs.Answers.{saveAnswer}
 
--- "steps in eight bytes, low first"
-unfoldable pub littleEndian : ℕ → ℕ → List ℕ
-littleEndian zero x = []
-littleEndian (suc k) x = x % 256 ∷ littleEndian k (x / 256)
-
-unfoldable pub fromLittle : List ℕ → ℕ
-fromLittle [] = 0
-fromLittle (b ∷ rest) = b + 256 * fromLittle rest
-
+-- "0 unfinished, 1 unfinished with a matching, 2 finished, 3 finished with one"
 abbrev pub stateByte : Bool → Bool → ℕ
 stateByte finished holds = cond finished 2 0 + cond holds 1 0
 
--- n is the old order
+-- "16, floor; 17, steps in eight bytes, low first; 18, state"
+unfoldable pub headerBytes : Checkpoint → List ℕ
+headerBytes c =
+    (16 ∷ c .minimum ∷ 17 ∷ []) ++ littleEndian 8 (c .steps) ++ (18 ∷ stateByte (c .finished) (c .holds) ∷ [])
+
+-- k entries of a list, each after its mark
+abbrev pub entryBytes : ℕ → List ℕ → ℕ → List ℕ
+entryBytes mark l k = runBelow k (λ i. mark ∷ getD l i 0 ∷ [])
+
+-- "19, byte for each path entry; then 20, byte for each of n entries if one is held; 0"; n is the old order
 unfoldable pub checkpointBytes : ℕ → Checkpoint → List ℕ
 checkpointBytes n c =
-    (16 ∷ c .minimum ∷ 17 ∷ []) ++ littleEndian 8 (c .steps) ++ (18 ∷ stateByte (c .finished) (c .holds) ∷ [])
-    ++ runBelow (c .depth) (λ i. 19 ∷ getD (c .path) i 0 ∷ [])
-    ++ runBelow (cond (c .holds) n 0) (λ i. 20 ∷ getD (c .incumbent) i 0 ∷ [])
-    ++ (0 ∷ [])
+    headerBytes c ++ entryBytes 19 (c .path) (c .depth) ++ entryBytes 20 (c .incumbent) (cond (c .holds) n 0) ++ (0 ∷ [])
 
--- the entries from a place on, the second byte of each pair
-abbrev pub entries : List ℕ → ℕ → ℕ → List ℕ
-entries bytes from k = runBelow k (λ i. getD bytes (from + 2 * i + 1) 0 ∷ [])
+-- the answer, and the buffer afterwards
+abbrev pub savingOf : SaveAnswer → List ℕ → Writing
+savingOf r buffer = record { answer = saveAnswer r; buffer = buffer }
 
--- the checkpoint that bytes in the form say
-unfoldable pub said : ℕ → List ℕ → Checkpoint
-said n bytes =
-    let state = getD bytes 12 0 in
-    let kept = cond (holdsOf state) n 0 in
-    let depth = (length bytes - (14 + 2 * kept)) / 2 in
-    record {
-      minimum = getD bytes 1 0;
-      steps = fromLittle (take 8 (drop 3 bytes));
-      depth = depth;
-      path = padded (entries bytes 13 depth);
-      finished = leb 2 state;
-      holds = holdsOf state;
-      incumbent = padded (entries bytes (13 + 2 * depth) kept);
-    }
+-- 10, 11 and 12; then 14; then 13; "Writers change only the bytes they fill", and a refusal changes nothing
+unfoldable pub saving : Problem → Checkpoint → List ℕ → Writing
+saving P c buffer = onSound (checkpointAnswer P c) (fill (checkpointBytes (P .old .order) c) buffer) buffer

@@ -4,6 +4,7 @@ pub mod Bytes
 pub mod Fuel
 pub mod Judge
 pub mod Length
+pub mod MadeReader
 pub mod PartTables
 pub mod ReadLoop
 pub mod ReadSound

@@ -38,7 +38,7 @@ written-passed g buffer k = go (tablesFit (g .order) (g .labels) (g .edges)) (la
     go false l e a = cc
 
 -- Filling that is accepted with k leaves the bytes in the first k of the buffer.
-filled-bytes : (bytes buffer : List ℕ) (k : ℕ) → fill bytes buffer .answer ≡ accepted k → take k (fill bytes buffer .buffer) ≡ bytes
+pub filled-bytes : (bytes buffer : List ℕ) (k : ℕ) → fill bytes buffer .answer ≡ accepted k → take k (fill bytes buffer .buffer) ≡ bytes
 filled-bytes bytes buffer k = go (leb (length bytes) (length buffer))
   where
     fits : Bool → Writing

@@ -92,3 +92,7 @@ reading labels edges bytes =
     cond (eqb (length labels) 64 && eqb (length edges) 4096)
     (readFrom (length bytes + 1) emptyGraph 0 bytes)
     (record { answer = refused 10; labels = labels; edges = edges })
+
+-- into tables that are all 0
+abbrev pub readGraph : List ℕ → Reading
+readGraph bytes = reading (replicate 64 0) (replicate 4096 0) bytes

@@ -2,6 +2,7 @@
 // A graph is a number of vertices, 64 vertex labels and 4,096 edge labels, the label of the edge of a and b at 64 * a + b.
 
 mod commands;
+mod cursor;
 mod reader;
 mod table_tests;
 mod tables;
@@ -10,7 +11,7 @@ mod writer;
 ghost use mathlib.Core.Path.{_≡_};
 ghost use Rattle.graph.specs.Graph.{graph};
 ghost use Rattle.graph.specs.Soundness.{tablesFit, soundness};
-ghost use Rattle.graph.specs.Answers.{soundnessAnswer};
+ghost use Rattle.graph.specs.Answers.{flawNumber, faultNumber, soundnessAnswer};
 ghost use Rattle.graph.specs.Reading.{readingOf, reading};
 ghost use Rattle.graph.specs.Writing.{writingOf, writing};
 
@@ -52,6 +53,34 @@ pub enum WriteAnswer {
     Written(usize),
     Flawed(Flaw),
     TooShort,
+}
+
+// The document's number of a flaw.
+pub fn flaw_number(flaw: Flaw) -> u8
+    ensures { λ r. ⌜ r ≡ flawNumber flaw ⌝ }
+{
+    match flaw {
+        Flaw::Tables => 10,
+        Flaw::Labels => 11,
+        Flaw::Edges => 12,
+    }
+}
+
+// The document's number of a fault.
+pub fn fault_number(fault: Fault) -> u8
+    ensures { λ r. ⌜ r ≡ faultNumber fault ⌝ }
+{
+    match fault {
+        Fault::Truncated => 1,
+        Fault::UnknownCommand => 2,
+        Fault::ZeroLabel => 3,
+        Fault::TooManyVertices => 4,
+        Fault::MissingVertex => 5,
+        Fault::SelfEdge => 6,
+        Fault::NullEdge => 7,
+        Fault::RepeatedEdge => 8,
+        Fault::TrailingBytes => 9,
+    }
 }
 
 // Whether the tables have 64 and 4,096 bytes, and the order is at most 64.

@@ -4,6 +4,7 @@ use super::Fault;
 use super::ReadAnswer;
 use super::commands;
 use super::commands::Step;
+use super::cursor;
 use super::tables;
 ghost use mathlib.Core.Path.{_≡_};
 ghost use Prim.Native.Nat.{_+_, _≤_, _<_};
@@ -47,11 +48,11 @@ pub fn read_commands(bytes: &[u8], labels: &mut [u8], edges: &mut [u8]) -> ReadA
     let mut order = 0;
     let mut at = 0;
     loop {
-        let command = commands::decode(&bytes[at..]);
+        let command = cursor::next_command(bytes, at);
         match commands::apply(command, order, labels, edges) {
             Step::Grown(next) => {
                 order = next;
-                at += commands::width(command);
+                at = cursor::next_place(bytes, at, command);
             }
             Step::Ended => {
                 return finish(bytes, at + 1, order, labels, edges);

@@ -91,11 +91,11 @@ Ends P minimum steps held top =
 -- ---- from the walk to the call
 
 -- every entry is a byte
-bytes : List ℕ → Bool
+unfoldable pub bytes : List ℕ → Bool
 bytes [] = true
 bytes (b ∷ l) = leb b 255 && bytes l
 
-bytes-small : (l : List ℕ) → bytes l ≡ true → (i : ℕ) → getD l i 0 ≤ 255
+pub bytes-small : (l : List ℕ) → bytes l ≡ true → (i : ℕ) → getD l i 0 ≤ 255
 unfolding bytes
 bytes-small [] e i = omega arith
 bytes-small (b ∷ l) e zero = leb-true b 255 (and-eq-true-iff (leb b 255) (bytes l) .0 e .0)

@@ -2,10 +2,8 @@
 -- Assumes nothing.
 use borrow.Author.Needs.{needs}
 use Prim.Native.Nat.{_+_, _-_}
-use native.Mathlib.Nat.{le-of-eq}
 use native.Mathlib.Omega.{arith}
-use lib.ListN.{length, drop, length-drop}
-use lib.Seq.{take-all}
+use lib.ListN.{length, drop}
 use mathlib.Core.Path.{_≡_, sym, ap, _∙_}
 use Rattle.graph.specs.declared.commands.Step.{Step}
 use Rattle.graph.specs.declared.commands.Step.the-variants.{Grown, Ended, Faulty}
@@ -28,17 +26,8 @@ loop-holds c =
     let start = c .before .before .before in
     head-first _ _ _ (start .pre .0) (start .pre .1)
 
-sub-decode : tie.Need-sub-decode Inv-loop μ-loop
-sub-decode c = search needs
-
-part-decode-start : tie.Need-part-decode-start Inv-loop μ-loop
-part-decode-start c = search needs
-
-part-decode-end : tie.Need-part-decode-end Inv-loop μ-loop
-part-decode-end c = search needs
-
-decode-requires : tie.Need-decode-requires Inv-loop μ-loop
-decode-requires c κs = search needs
+next-command-requires : tie.Need-next-command-requires Inv-loop μ-loop
+next-command-requires c κs = search needs
 
 apply-requires : tie.Need-apply-requires Inv-loop μ-loop
 apply-requires c κs = search needs
@@ -46,38 +35,32 @@ apply-requires c κs = search needs
 enum-known-next : tie.Need-enum-known-next Inv-loop μ-loop
 enum-known-next c = search needs
 
-width-requires : tie.Need-width-requires Inv-loop μ-loop
-width-requires c κs = search needs
-
 -- the decoded command is the one at the front of the bytes from the place on
 told : (c : tie.After-apply Inv-loop μ-loop)
-    → c .before .before .before .decode .result ≡ decode (drop (c .before .before .before .before .before .loop .at) (c .before .before .before .before .before .before .before .before .before .args .bytes .now))
-told c =
-    let at = c .before .before .before .before .before .loop .at in
-    let bytes = c .before .before .before .before .before .before .before .before .before .args .bytes .now in
-    c .before .before .before .decode .ensures ∙ ap decode (take-all (length bytes - at) (drop at bytes) (le-of-eq (length-drop at bytes)))
+    → c .before .before .before .next-command .result ≡ decode (drop (c .before .before .before .before .loop .at) (c .before .before .before .before .before .before .before .before .args .bytes .now))
+told c = c .before .before .before .next-command .ensures
 
 -- what the loop's head knew, and how the command was judged
-turn : (c : tie.After-apply Inv-loop μ-loop) (s : Step) → c .apply .result ≡ s → judged s (c .apply .last .1 .1 .0) (c .apply .last .1 .1 .1 .0) ≡ judge (graph (c .before .before .before .before .before .loop .order) (c .before .before .before .before .before .loop .labels) (c .before .before .before .before .before .loop .edges)) (c .before .before .before .decode .result)
+turn : (c : tie.After-apply Inv-loop μ-loop) (s : Step) → c .apply .result ≡ s → judged s (c .apply .last .1 .1 .0) (c .apply .last .1 .1 .1 .0) ≡ judge (graph (c .before .before .before .before .loop .order) (c .before .before .before .before .loop .labels) (c .before .before .before .before .loop .edges)) (c .before .before .before .next-command .result)
 turn c s e = ap (λ (x : Step). judged x (c .apply .last .1 .1 .0) (c .apply .last .1 .1 .1 .0)) (sym e) ∙ c .apply .ensures .0
 
-add-at : tie.Need-add-at Inv-loop μ-loop
-add-at c =
-    let call = c .before .before .before .before .before .before .before .before in
-    let made = turn call (Grown (c .before .before .next .given .0 .0)) (c .before .before .next .given .1) in
-    rw (c .width .ensures) (omega (arith, more-fits _ _ _ _ _ (call .before .before .before .before .before .loop .inv) _ (told call) _ _ _ made .1, call .before .before .before .before .before .before .before .before .before .good))
+next-place-requires : tie.Need-next-place-requires Inv-loop μ-loop
+next-place-requires c κs =
+    let call = c .before .before .before .before .before .before .before in
+    let made = turn call (Grown (c .before .next .given .0 .0)) (c .before .next .given .1) in
+    omega (arith, more-fits _ _ _ _ _ (call .before .before .before .before .loop .inv) _ (told call) _ _ _ made .1, call .before .before .before .before .before .before .before .before .good)
 
 loop-less : tie.Need-loop-less Inv-loop μ-loop
 loop-less c =
     let call = c .before .before .before .before .before .before .before .before in
     let made = turn call (Grown (c .before .before .next .given .0 .0)) (c .before .before .next .given .1) in
-    rw (c .width .ensures) (falls _ _ _ _ _ (call .before .before .before .before .before .loop .inv) _ (told call) _ _ _ made)
+    rw (c .next-place .ensures) (falls _ _ _ _ _ (call .before .before .before .before .loop .inv) _ (told call) _ _ _ made)
 
 loop-again : tie.Need-loop-again Inv-loop μ-loop
 loop-again c =
     let call = c .before .before .before .before .before .before .before .before in
     let made = turn call (Grown (c .before .before .next .given .0 .0)) (c .before .before .next .given .1) in
-    rw (c .width .ensures) (head-more _ _ _ _ _ (call .before .before .before .before .before .loop .inv) _ (told call) _ _ _ made (call .apply .kept .1 .1 .0) (call .apply .kept .1 .1 .1 .0))
+    rw (c .next-place .ensures) (head-more _ _ _ _ _ (call .before .before .before .before .loop .inv) _ (told call) _ _ _ made (call .apply .kept .1 .1 .0) (call .apply .kept .1 .1 .1 .0))
 
 enum-told : tie.Need-enum-told Inv-loop μ-loop
 enum-told c = search needs
@@ -86,34 +69,34 @@ add-finish : tie.Need-add-finish Inv-loop μ-loop
 add-finish c =
     let call = c .before .before .before .before .before .before in
     let made = turn call Ended (c .enum-told .given .1) in
-    omega (arith, end-fits _ _ _ _ _ (call .before .before .before .before .before .loop .inv) _ (told call) (call .apply .last .1 .1 .0) (call .apply .last .1 .1 .1 .0) made, call .before .before .before .before .before .before .before .before .before .good)
+    omega (arith, end-fits _ _ _ _ _ (call .before .before .before .before .loop .inv) _ (told call) (call .apply .last .1 .1 .0) (call .apply .last .1 .1 .1 .0) made, call .before .before .before .before .before .before .before .before .good)
 
 finish-requires : tie.Need-finish-requires Inv-loop μ-loop
 finish-requires c κs =
     let call = c .before .before .before .before .before .before .before .before in
     let made = turn call Ended (c .before .before .enum-told .given .1) in
-    (call .apply .kept .1 .1 .0 ∙ call .before .before .before .before .before .loop .inv .labels-length, call .apply .kept .1 .1 .1 .0 ∙ call .before .before .before .before .before .loop .inv .edges-length, end-fits _ _ _ _ _ (call .before .before .before .before .before .loop .inv) _ (told call) (call .apply .last .1 .1 .0) (call .apply .last .1 .1 .1 .0) made)
+    (call .apply .kept .1 .1 .0 ∙ call .before .before .before .before .loop .inv .labels-length, call .apply .kept .1 .1 .1 .0 ∙ call .before .before .before .before .loop .inv .edges-length, end-fits _ _ _ _ _ (call .before .before .before .before .loop .inv) _ (told call) (call .apply .last .1 .1 .0) (call .apply .last .1 .1 .1 .0) made)
 
 same-length : tie.Need-same-length Inv-loop μ-loop
 same-length c =
     let call = c .before .before .before .before .before .before .before .before .before .before .before .before .before in
-    c .before .before .before .before .finish .kept .1 .1 .1 .0 ∙ call .apply .kept .1 .1 .0 ∙ call .before .before .before .before .before .loop .inv .labels-length ∙ sym (ap length (call .before .before .before .before .before .before .before .before .before .pre .0))
+    c .before .before .before .before .finish .kept .1 .1 .1 .0 ∙ call .apply .kept .1 .1 .0 ∙ call .before .before .before .before .loop .inv .labels-length ∙ sym (ap length (call .before .before .before .before .before .before .before .before .pre .0))
 
 same-length-2 : tie.Need-same-length-2 Inv-loop μ-loop
 same-length-2 c =
     let call = c .before .before .before .before .before .before .before .before .before .before .before .before .before in
-    c .before .before .before .before .finish .kept .1 .1 .1 .1 .0 ∙ call .apply .kept .1 .1 .1 .0 ∙ call .before .before .before .before .before .loop .inv .edges-length ∙ sym (ap length (call .before .before .before .before .before .before .before .before .before .pre .1))
+    c .before .before .before .before .finish .kept .1 .1 .1 .1 .0 ∙ call .apply .kept .1 .1 .1 .0 ∙ call .before .before .before .before .loop .inv .edges-length ∙ sym (ap length (call .before .before .before .before .before .before .before .before .pre .1))
 
 returns : tie.Need-returns Inv-loop μ-loop
 unfolding readAt
 returns c =
     let call = c .before .before .before .before .before .before .before .before .before .before .before .before .before in
     let made = turn call Ended (c .before .before .before .before .before .before .before .enum-told .given .1) in
-    let at = call .before .before .before .before .before .loop .at in
-    let bytes = call .before .before .before .before .before .before .before .before .before .args .bytes .now in
+    let at = call .before .before .before .before .loop .at in
+    let bytes = call .before .before .before .before .before .before .before .before .args .bytes .now in
     c .before .before .before .before .finish .ensures
-    ∙ ap (λ (g : Graph). finish g (at + 1) (drop (at + 1) bytes)) (end-keeps _ _ _ _ _ (call .before .before .before .before .before .loop .inv) _ (told call) (call .apply .last .1 .1 .0) (call .apply .last .1 .1 .1 .0) made (call .apply .ensures .1 .0) (call .apply .ensures .1 .1))
-    ∙ sym (end-reads _ _ _ _ _ (call .before .before .before .before .before .loop .inv) _ (told call) (call .apply .last .1 .1 .0) (call .apply .last .1 .1 .1 .0) made)
+    ∙ ap (λ (g : Graph). finish g (at + 1) (drop (at + 1) bytes)) (end-keeps _ _ _ _ _ (call .before .before .before .before .loop .inv) _ (told call) (call .apply .last .1 .1 .0) (call .apply .last .1 .1 .1 .0) made (call .apply .ensures .1 .0) (call .apply .ensures .1 .1))
+    ∙ sym (end-reads _ _ _ _ _ (call .before .before .before .before .loop .inv) _ (told call) (call .apply .last .1 .1 .0) (call .apply .last .1 .1 .1 .0) made)
 
 enum-known-fault : tie.Need-enum-known-fault Inv-loop μ-loop
 enum-known-fault c = search needs
@@ -124,12 +107,12 @@ refuse-requires c κs = search needs
 same-length-3 : tie.Need-same-length-3 Inv-loop μ-loop
 same-length-3 c =
     let call = c .before .before .before .before .before .before .before .before .before .before .before .before .before .before in
-    c .before .before .before .before .refuse .kept .1 .1 .0 ∙ call .apply .kept .1 .1 .0 ∙ call .before .before .before .before .before .loop .inv .labels-length ∙ sym (ap length (call .before .before .before .before .before .before .before .before .before .pre .0))
+    c .before .before .before .before .refuse .kept .1 .1 .0 ∙ call .apply .kept .1 .1 .0 ∙ call .before .before .before .before .loop .inv .labels-length ∙ sym (ap length (call .before .before .before .before .before .before .before .before .pre .0))
 
 same-length-4 : tie.Need-same-length-4 Inv-loop μ-loop
 same-length-4 c =
     let call = c .before .before .before .before .before .before .before .before .before .before .before .before .before .before in
-    c .before .before .before .before .refuse .kept .1 .1 .1 .0 ∙ call .apply .kept .1 .1 .1 .0 ∙ call .before .before .before .before .before .loop .inv .edges-length ∙ sym (ap length (call .before .before .before .before .before .before .before .before .before .pre .1))
+    c .before .before .before .before .refuse .kept .1 .1 .1 .0 ∙ call .apply .kept .1 .1 .1 .0 ∙ call .before .before .before .before .loop .inv .edges-length ∙ sym (ap length (call .before .before .before .before .before .before .before .before .pre .1))
 
 returns-2 : tie.Need-returns-2 Inv-loop μ-loop
 unfolding readAt
@@ -137,7 +120,7 @@ returns-2 c =
     let call = c .before .before .before .before .before .before .before .before .before .before .before .before .before .before in
     let fault = c .before .before .before .before .before .before .before .before .fault .given .0 .0 in
     let made = turn call (Faulty fault) (c .before .before .before .before .before .before .before .before .fault .given .1) in
-    c .before .before .before .before .refuse .ensures ∙ sym (fault-reads _ _ _ _ _ (call .before .before .before .before .before .loop .inv) _ (told call) (call .apply .last .1 .1 .0) (call .apply .last .1 .1 .1 .0) fault made)
+    c .before .before .before .before .refuse .ensures ∙ sym (fault-reads _ _ _ _ _ (call .before .before .before .before .loop .inv) _ (told call) (call .apply .last .1 .1 .0) (call .apply .last .1 .1 .1 .0) fault made)
 
 pub read-commands-spec : {M : Type 1} → statement M
 read-commands-spec =
@@ -146,14 +129,10 @@ read-commands-spec =
     Inv-loop
     μ-loop
     loop-holds
-    sub-decode
-    part-decode-start
-    part-decode-end
-    decode-requires
+    next-command-requires
     apply-requires
     enum-known-next
-    width-requires
-    add-at
+    next-place-requires
     loop-less
     loop-again
     enum-told

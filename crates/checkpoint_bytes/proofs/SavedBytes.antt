@@ -1,0 +1,82 @@
+-- The bytes of a checkpoint are in the form, and how many they are.
+use mathlib.Core.Path.{_≡_, refl, sym, ap, ap₂, _∙_}
+use mathlib.Core.Bool.{Bool, true, false, cond}
+use mathlib.Core.List.{List, [], _∷_, _++_, append-assoc}
+use mathlib.Core.Option.{none}
+use Prim.Native.Nat.{ℕ, _+_, _*_, _≤_}
+use native.Mathlib.Omega.{arith}
+use lib.ListN.{length, getD}
+use Rattle.little_endian.specs.LittleEndian.{littleEndian}
+use Rattle.little_endian.proofs.LittleEndian.{length-little}
+use Rattle.mapping.specs.Problem.{Problem, SoundProblem}
+use Rattle.search.specs.declared.Checkpoint.{Checkpoint}
+use Rattle.search.specs.Checkpoints.{InShape}
+use Rattle.checkpoint_bytes.specs.Form.{holdsOf, finishedOf, formFault}
+use Rattle.checkpoint_bytes.specs.Saving.{stateByte, headerBytes, checkpointBytes}
+use Rattle.checkpoint_bytes.proofs.Pairs.{valuesBelow, length-values, entry-pairs}
+use Rattle.checkpoint_bytes.proofs.FormedBytes.{formBytes, Formed, form-length, formed-faultless}
+
+-- The state's byte says whether a mapping is held and whether the search is finished, and is at most 3.
+pub state-says : (finished holds : Bool)
+    → (holdsOf (stateByte finished holds) ≡ holds) × (finishedOf (stateByte finished holds) ≡ finished) × (stateByte finished holds ≤ 3)
+state-says true true = (refl, refl, omega arith)
+state-says true false = (refl, refl, omega arith)
+state-says false true = (refl, refl, omega arith)
+state-says false false = (refl, refl, omega arith)
+
+-- the entries that are saved
+abbrev pub savedPath : Checkpoint → List ℕ
+savedPath c = valuesBelow (c .depth) (λ i. getD (c .path) i 0)
+
+abbrev pub savedHeld : ℕ → Checkpoint → List ℕ
+savedHeld n c = valuesBelow (cond (c .holds) n 0) (λ i. getD (c .incumbent) i 0)
+
+module _ (n : ℕ) (c : Checkpoint) where
+  -- The bytes of a checkpoint, part by part.
+  pub saved-bytes :
+      checkpointBytes n c
+      ≡ formBytes (c .minimum) (littleEndian 8 (c .steps)) (stateByte (c .finished) (c .holds)) (savedPath c) (savedHeld n c)
+  unfolding checkpointBytes headerBytes
+  saved-bytes =
+      ap₂ (λ (p h : List ℕ). headerBytes c ++ p ++ h ++ (0 ∷ []))
+      (entry-pairs 19 (c .path) (c .depth)) (entry-pairs 20 (c .incumbent) (cond (c .holds) n 0))
+      ∙ simp append-assoc
+
+  -- They are in the form.
+  unfoldable pub saved-formed : c .depth ≤ n → Formed n (checkpointBytes n c)
+  saved-formed deep = record {
+    minimum = c .minimum;
+    steps = littleEndian 8 (c .steps);
+    state = stateByte (c .finished) (c .holds);
+    path = savedPath c;
+    held = savedHeld n c;
+    steps-length = length-little 8 (c .steps);
+    state-max = state-says (c .finished) (c .holds) .2;
+    path-max = omega (arith, length-values (c .depth) (λ i. getD (c .path) i 0));
+    held-length =
+        length-values (cond (c .holds) n 0) (λ i. getD (c .incumbent) i 0)
+        ∙ ap (λ (b : Bool). cond b n 0) (sym (state-says (c .finished) (c .holds) .0));
+    whole = saved-bytes;
+  }
+
+  -- No byte of a saved checkpoint stands where it cannot.
+  pub save-formed : c .depth ≤ n → formFault n (checkpointBytes n c) ≡ none
+  save-formed deep = formed-faultless (saved-formed deep)
+
+  -- The header has 13 bytes, the end 1, and each entry 2.
+  pub saved-length : length (checkpointBytes n c) ≡ 14 + 2 * c .depth + 2 * cond (c .holds) n 0
+  saved-length =
+      ap length saved-bytes
+      ∙ form-length (c .minimum) (littleEndian 8 (c .steps)) (stateByte (c .finished) (c .holds)) (savedPath c) (savedHeld n c)
+      (length-little 8 (c .steps))
+      ∙ ap₂ (λ (p h : ℕ). 14 + 2 * p + 2 * h) (length-values (c .depth) _) (length-values (cond (c .holds) n 0) _)
+
+-- at most n entries of a mapping
+held-few : (n : ℕ) (holds : Bool) → cond holds n 0 ≤ n
+held-few n true = omega arith
+held-few n false = omega arith
+
+-- "At most 270 bytes."
+pub saved-max : (P : Problem) → SoundProblem P → (c : Checkpoint) → InShape P c → length (checkpointBytes (P .old .order) c) ≤ 270
+saved-max P sound c shape =
+    omega (arith, saved-length (P .old .order) c, shape .depth-max, sound .old-sound .order-max, held-few (P .old .order) (c .holds))

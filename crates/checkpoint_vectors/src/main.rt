@@ -1,0 +1,354 @@
+// Saves and loads checkpoints and writes what each call says. The bytes and the expected output were worked out by hand from document 01,
+// "Bookmark and calls" and "Refusals by place of checking".
+
+mod lines;
+
+use checkpoint_bytes::LoadAnswer;
+use graph::ReadAnswer;
+use search::Checkpoint;
+ghost use mathlib.Core.Path.{_≡_};
+ghost use Prim.Native.Nat.{_≤_};
+ghost use lib.ListN.{length};
+
+// The graph's order. Bytes that hold no graph are told of in the output.
+fn read(bytes: &[u8], labels: &mut [u8], edges: &mut [u8]) -> usize {
+    match graph::read_graph(bytes, labels, edges) {
+        ReadAnswer::Order(order) => order,
+        _ => {
+            lines::word(b"no graph\n");
+            0
+        }
+    }
+}
+
+// Loads the bytes, and saves what was loaded.
+fn load(
+    name: &[u8],
+    old_order: usize,
+    old_labels: &[u8],
+    old_edges: &[u8],
+    new_order: usize,
+    new_labels: &[u8],
+    new_edges: &[u8],
+    bytes: &[u8],
+) {
+    let loaded = checkpoint_bytes::load_checkpoint(
+        old_order,
+        old_labels,
+        old_edges,
+        new_order,
+        new_labels,
+        new_edges,
+        bytes,
+    );
+    let answer = loaded.answer;
+    let checkpoint = loaded.checkpoint;
+    lines::word(name);
+    lines::loaded(answer);
+    lines::checkpoint(checkpoint);
+    if let LoadAnswer::InShape = answer {
+        let mut buffer = [170u8; 300];
+        lines::saved(checkpoint_bytes::save_checkpoint(
+            old_order,
+            old_labels,
+            old_edges,
+            new_order,
+            new_labels,
+            new_edges,
+            checkpoint,
+            &mut buffer,
+        ));
+        lines::compared(bytes, &buffer);
+    }
+    lines::word(b"\n");
+}
+
+fn case(name: &[u8], old: &[u8], new: &[u8], bytes: &[u8]) {
+    let mut old_labels = [0u8; 64];
+    let mut old_edges = [0u8; 4096];
+    let mut new_labels = [0u8; 64];
+    let mut new_edges = [0u8; 4096];
+    let old_order = read(old, &mut old_labels, &mut old_edges);
+    let new_order = read(new, &mut new_labels, &mut new_edges);
+    load(
+        name,
+        old_order,
+        &old_labels,
+        &old_edges,
+        new_order,
+        &new_labels,
+        &new_edges,
+        bytes,
+    );
+}
+
+// 01's pair P. Old kinds 7, 9, 7, links 0-1 and 1-2 of kind 1; new kinds 9, 7, link 0-1 of kind 1.
+fn on_p(name: &[u8], bytes: &[u8]) {
+    case(
+        name,
+        b"\x01\x07\x01\x09\x01\x07\x02\x00\x01\x01\x02\x01\x02\x01\x00",
+        b"\x01\x09\x01\x07\x02\x00\x01\x01\x00",
+        bytes,
+    );
+}
+
+fn accepted_on_the_way() {
+    on_p(
+        b"fresh",
+        b"\x10\x01\x11\x00\x00\x00\x00\x00\x00\x00\x00\x12\x00\x00",
+    );
+    on_p(
+        b"midway",
+        b"\x10\x01\x11\x03\x00\x00\x00\x00\x00\x00\x00\x12\x00\x13\x01\x13\x00\x13\xff\x00",
+    );
+    on_p(
+        b"held",
+        b"\x10\x01\x11\x04\x00\x00\x00\x00\x00\x00\x00\x12\x01\x13\x01\x13\xff\x14\x01\x14\x00\x14\xff\x00",
+    );
+    on_p(
+        b"finished with a mapping",
+        b"\x10\x01\x11\x06\x00\x00\x00\x00\x00\x00\x00\x12\x03\x14\x01\x14\x00\x14\xff\x00",
+    );
+}
+
+fn accepted_extremes() {
+    on_p(
+        b"finished with none",
+        b"\x10\xff\x11\x01\x00\x00\x00\x00\x00\x00\x00\x12\x02\x00",
+    );
+    on_p(
+        b"steps of two bytes",
+        b"\x10\x01\x11\x02\x01\x00\x00\x00\x00\x00\x00\x12\x00\x13\x01\x00",
+    );
+    on_p(
+        b"greatest number of steps",
+        b"\x10\x00\x11\xff\xff\xff\xff\xff\xff\xff\xff\x12\x02\x00",
+    );
+}
+
+fn accepted() {
+    accepted_on_the_way();
+    accepted_extremes();
+}
+
+fn malformed_front() {
+    on_p(b"no bytes", b"");
+    on_p(
+        b"first mark",
+        b"\x11\x01\x11\x00\x00\x00\x00\x00\x00\x00\x00\x12\x00\x00",
+    );
+    on_p(
+        b"second mark",
+        b"\x10\x01\x10\x00\x00\x00\x00\x00\x00\x00\x00\x12\x00\x00",
+    );
+    on_p(b"cut in the steps", b"\x10\x01\x11\x00\x00");
+}
+
+fn malformed_state() {
+    on_p(
+        b"third mark",
+        b"\x10\x01\x11\x00\x00\x00\x00\x00\x00\x00\x00\x13\x00\x00",
+    );
+    on_p(
+        b"state 4",
+        b"\x10\x01\x11\x00\x00\x00\x00\x00\x00\x00\x00\x12\x04\x00",
+    );
+    on_p(
+        b"no end",
+        b"\x10\x01\x11\x00\x00\x00\x00\x00\x00\x00\x00\x12\x00",
+    );
+    on_p(
+        b"unknown mark",
+        b"\x10\x01\x11\x00\x00\x00\x00\x00\x00\x00\x00\x12\x00\x15\x00",
+    );
+}
+
+fn malformed_entries() {
+    on_p(
+        b"entry 4 of 3",
+        b"\x10\x01\x11\x03\x00\x00\x00\x00\x00\x00\x00\x12\x00\x13\x01\x13\x00\x13\xff\x13\xff\x00",
+    );
+    on_p(
+        b"entry cut off",
+        b"\x10\x01\x11\x03\x00\x00\x00\x00\x00\x00\x00\x12\x00\x13",
+    );
+    on_p(
+        b"mapping where none is held",
+        b"\x10\x01\x11\x03\x00\x00\x00\x00\x00\x00\x00\x12\x00\x14\x01\x14\x00\x14\xff\x00",
+    );
+    on_p(
+        b"no mapping where one is held",
+        b"\x10\x01\x11\x06\x00\x00\x00\x00\x00\x00\x00\x12\x03\x00",
+    );
+}
+
+fn malformed_mapping() {
+    on_p(
+        b"mapping one entry short",
+        b"\x10\x01\x11\x06\x00\x00\x00\x00\x00\x00\x00\x12\x03\x14\x01\x14\x00\x00",
+    );
+    on_p(
+        b"mapping one entry long",
+        b"\x10\x01\x11\x06\x00\x00\x00\x00\x00\x00\x00\x12\x03\x14\x01\x14\x00\x14\xff\x14\xff\x00",
+    );
+    on_p(
+        b"path after the mapping began",
+        b"\x10\x01\x11\x04\x00\x00\x00\x00\x00\x00\x00\x12\x01\x14\x01\x13\x01\x00",
+    );
+    on_p(
+        b"bytes after the end",
+        b"\x10\x01\x11\x00\x00\x00\x00\x00\x00\x00\x00\x12\x00\x00\x00",
+    );
+}
+
+fn malformed() {
+    malformed_front();
+    malformed_state();
+    malformed_entries();
+    malformed_mapping();
+}
+
+fn shapeless_path() {
+    on_p(
+        b"no candidate",
+        b"\x10\x01\x11\x01\x00\x00\x00\x00\x00\x00\x00\x12\x00\x13\x00\x00",
+    );
+    on_p(
+        b"number above every vertex",
+        b"\x10\x01\x11\x01\x00\x00\x00\x00\x00\x00\x00\x12\x00\x13\x07\x00",
+    );
+    on_p(
+        b"path after finished",
+        b"\x10\x01\x11\x06\x00\x00\x00\x00\x00\x00\x00\x12\x02\x13\x01\x00",
+    );
+    on_p(
+        b"no steps at depth 1",
+        b"\x10\x01\x11\x00\x00\x00\x00\x00\x00\x00\x00\x12\x00\x13\x01\x00",
+    );
+}
+
+fn shapeless_held() {
+    on_p(
+        b"steps at the root, unfinished",
+        b"\x10\x01\x11\x05\x00\x00\x00\x00\x00\x00\x00\x12\x00\x00",
+    );
+    on_p(
+        b"mapping below the minimum",
+        b"\x10\x03\x11\x06\x00\x00\x00\x00\x00\x00\x00\x12\x03\x14\x01\x14\x00\x14\xff\x00",
+    );
+    on_p(
+        b"mapping that is no common subgraph",
+        b"\x10\x00\x11\x06\x00\x00\x00\x00\x00\x00\x00\x12\x03\x14\x00\x14\xff\x14\xff\x00",
+    );
+    on_p(
+        b"mapping before the first step",
+        b"\x10\x00\x11\x00\x00\x00\x00\x00\x00\x00\x00\x12\x01\x14\x01\x14\x00\x14\xff\x00",
+    );
+}
+
+fn shapeless() {
+    shapeless_path();
+    shapeless_held();
+}
+
+// The entries 0 to 63 after a mark, from the place `start` on.
+fn put_identity(mark: u8, bytes: &mut [u8; 270], start: usize)
+    requires { ⌜ (length (now bytes) ≡ 270) × (start ≤ 141) ⌝ }
+    ensures { λ _. ⌜ length (now (bytes .exit)) ≡ 270 ⌝ }
+{
+    let mut i = 0;
+    while i < 64 {
+        bytes[start + 2 * i] = mark;
+        bytes[start + 2 * i + 1] = i as u8;
+        i += 1;
+    }
+}
+
+// 64 vertices of label 1 on each side, no edges: each vertex is mapped to its own number, on the path and in what is held.
+fn full() {
+    let mut graph = [1u8; 129];
+    graph[128] = 0;
+    let mut bytes = [0u8; 270];
+    bytes[0] = 16;
+    bytes[2] = 17;
+    bytes[3] = 65;
+    bytes[11] = 18;
+    bytes[12] = 1;
+    put_identity(19, &mut bytes, 13);
+    put_identity(20, &mut bytes, 141);
+    case(b"64 vertices at full depth", &graph, &graph, &bytes);
+}
+
+// Graphs that are not sound are refused before bytes that are malformed.
+fn unsound() {
+    let mut labels = [0u8; 64];
+    let edges = [0u8; 4096];
+    load(b"order 65", 65, &labels, &edges, 0, &labels, &edges, b"");
+    labels[63] = 9;
+    load(
+        b"old labels unsound, and malformed",
+        0,
+        &labels,
+        &edges,
+        0,
+        &labels,
+        &edges,
+        b"",
+    );
+}
+
+// Saves a checkpoint that was never loaded.
+fn save(name: &[u8], depth: usize, edge: u8, out: &mut [u8]) {
+    let mut labels = [0u8; 64];
+    let mut edges = [0u8; 4096];
+    labels[0] = 7;
+    labels[1] = 7;
+    labels[2] = 7;
+    edges[0] = edge;
+    let mut path = [0u8; 64];
+    path[0] = 255;
+    path[1] = 255;
+    path[2] = 255;
+    let answer = checkpoint_bytes::save_checkpoint(
+        3,
+        &labels,
+        &edges,
+        3,
+        &labels,
+        &edges,
+        Checkpoint {
+            minimum: 0,
+            steps: 9,
+            depth,
+            path,
+            finished: false,
+            holds: false,
+            incumbent: [0u8; 64],
+        },
+        out,
+    );
+    lines::word(name);
+    lines::saved(answer);
+    lines::word(b"\n");
+}
+
+fn main() {
+    accepted();
+    malformed();
+    shapeless();
+    case(
+        b"both empty, finished",
+        b"\x00",
+        b"\x00",
+        b"\x10\x00\x11\x01\x00\x00\x00\x00\x00\x00\x00\x12\x03\x00",
+    );
+    full();
+    unsound();
+    let mut room = [170u8; 20];
+    let mut short = [170u8; 19];
+    let mut shorter = [170u8; 17];
+    save(b"just room", 3, 0, &mut room);
+    save(b"one byte short", 3, 0, &mut short);
+    save(b"out of shape, and one byte short", 2, 0, &mut shorter);
+    save(b"old edges unsound", 3, 1, &mut room);
+}

@@ -1,0 +1,31 @@
+-- The bytes that were written lie in the buffer, so that a caller may lend just these.
+use mathlib.Core.Path.{_≡_, sym, ap, _∙_}
+use mathlib.Core.Bool.{Bool, true, false, cond}
+use mathlib.Core.List.{List}
+use Prim.Native.Nat.{ℕ, _≤_}
+use native.Mathlib.Omega.{arith}
+use lib.Dec.{leb}
+use lib.ListN.{length, drop, length-append}
+use Rattle.graph.specs.Answers.{Answer, accepted, refused}
+use Rattle.graph.specs.Writing.{Writing, overwrite, fill}
+use Rattle.report.specs.declared.ReportAnswer.{ReportAnswer}
+use Rattle.report.specs.declared.ReportAnswer.the-variants.{Written}
+use Rattle.report.specs.Report.{writtenOf}
+
+pub written-fits : (text before after : List ℕ) (r : ReportAnswer) (count : ℕ) → r ≡ Written count → writtenOf r after ≡ fill text before
+    → count ≤ length after
+written-fits text before after r count e told =
+    go (leb (length text) (length before)) (ap (λ (x : ReportAnswer). writtenOf x after) (sym e) ∙ told)
+  where
+    go : (room : Bool)
+        → writtenOf (Written count) after
+        ≡ cond room (record { answer = accepted (length text); buffer = overwrite text before }) (record { answer = refused 13; buffer = before })
+        → count ≤ length after
+    go true q =
+        let a : accepted count ≡ accepted (length text) = ap (λ (w : Writing). w .answer) q in
+        let n : count ≡ length text = cc in
+        omega (arith, ap length (ap (λ (w : Writing). w .buffer) q) ∙ length-append text (drop (length text) before))
+    go false q =
+        let a : accepted count ≡ refused 13 = ap (λ (w : Writing). w .answer) q in
+        let z : _≡_ {A = ℕ} 0 1 = cc in
+        absurd (omega arith)

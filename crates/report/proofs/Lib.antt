@@ -1,0 +1,10 @@
+pub mod Decimals
+pub mod FilledTexts
+pub mod PutRuns
+pub mod PutTexts
+pub mod ReportCases
+pub mod TextLengths
+pub mod FilledBuffer
+pub mod GraphRead
+pub mod ProgramExample
+pub mod SearchReport

@@ -1,0 +1,3 @@
+pub mod Locals
+pub mod Parameters
+pub mod Values
