@@ -1,0 +1,4 @@
+pub mod Told
+pub mod Graphs
+pub mod Checks
+pub mod Calls

@@ -1,0 +1,239 @@
+//! `bench` times the proved search, through the C interface, beside `fast` on the same graphs. It
+//! takes processor time, so that other work on the machine counts less, and the best of several
+//! rounds.
+
+use std::time::Duration;
+
+use harness::answer::Answer;
+use harness::cases::{graph, Style};
+use harness::fast::Search;
+use harness::library::{self, CHECKPOINT_BYTES, WORKSPACE_WORDS};
+use harness::random::Random;
+use harness::reference::{Checkpoint, Problem};
+
+/// A walk of 20 million visits is timed in slices.
+const SLICES: usize = 20;
+const SLICE: u64 = 1_000_000;
+const ROUNDS: usize = 5;
+const CALLS: u32 = 200;
+const WANTED_RATIO: f64 = 1.5;
+const WANTED_MICROSECONDS: f64 = 100.0;
+
+/// Two random graphs of so many vertices and labels; the density is the chance of an edge, in
+/// percent.
+struct Shape {
+    order: usize,
+    vertex_labels: u8,
+    edge_labels: u8,
+    density: usize,
+}
+
+const WALKS: [Shape; 6] = [
+    shape(40, 2, 1, 30),
+    shape(48, 2, 1, 30),
+    shape(48, 3, 2, 30),
+    shape(56, 2, 2, 30),
+    shape(64, 2, 1, 30),
+    shape(64, 3, 1, 30),
+];
+
+const SINGLE_CALLS: [Shape; 4] = [
+    shape(64, 2, 1, 30),
+    shape(64, 1, 1, 100),
+    shape(64, 1, 3, 100),
+    shape(64, 1, 1, 0),
+];
+
+const fn shape(order: usize, vertex_labels: u8, edge_labels: u8, density: usize) -> Shape {
+    Shape {
+        order,
+        vertex_labels,
+        edge_labels,
+        density,
+    }
+}
+
+fn main() {
+    println!("walks of {SLICES} * {SLICE} visits, best of {ROUNDS} rounds:");
+    let walks = WALKS.map(|shape| time_walk(&shape));
+    println!("calls of one visit, best of {ROUNDS} rounds of {CALLS} calls:");
+    let calls = SINGLE_CALLS.map(|shape| time_calls(&shape));
+
+    let worst_ratio = walks.iter().map(|walk| walk.ratio).fold(0.0, f64::max);
+    let worst_call = calls.into_iter().fold(0.0, f64::max);
+    let same = walks.iter().all(|walk| walk.same);
+    println!("same steps, incumbents and ceilings: {}", yes_or_no(same));
+    println!(
+        "ratio at most {WANTED_RATIO}: {} (worst {worst_ratio:.2})",
+        yes_or_no(worst_ratio <= WANTED_RATIO)
+    );
+    println!(
+        "a call below {WANTED_MICROSECONDS} microseconds: {} (worst {worst_call:.1})",
+        yes_or_no(worst_call < WANTED_MICROSECONDS)
+    );
+}
+
+fn yes_or_no(holds: bool) -> &'static str {
+    if holds {
+        "yes"
+    } else {
+        "NO"
+    }
+}
+
+struct Walk {
+    ratio: f64,
+    /// Both report the same.
+    same: bool,
+}
+
+/// Both walk on in turn, slice by slice, and each slice counts with its best time.
+fn time_walk(shape: &Shape) -> Walk {
+    let problem = shape.problem();
+    let [mut proved, mut fast] = [[Duration::MAX; SLICES]; 2];
+    let mut same = true;
+    let mut steps = 0;
+    for _ in 0..ROUNDS {
+        let mut library = LibrarySearch::start(&problem);
+        let mut search = Search::start(&problem, 0);
+        let mut ceiling = 0;
+        for slice in 0..SLICES {
+            proved[slice] = proved[slice].min(timed(|| ceiling = library.advance(SLICE)));
+            fast[slice] = fast[slice].min(timed(|| search.advance(SLICE)));
+        }
+        let reported = Checkpoint::load(&problem, &library.checkpoint);
+        same &= reported == Ok(search.checkpoint()) && ceiling == search.ceiling() as u64;
+        steps = search.checkpoint().steps;
+    }
+    let [proved, fast] = [proved, fast].map(|slices| slices.iter().sum::<Duration>());
+    let ratio = proved.as_secs_f64() / fast.as_secs_f64();
+    let [proved, fast] = [proved, fast].map(|time| time.as_secs_f64() * 1e9 / steps as f64);
+    println!("  {shape}: proved {proved:5.1} ns a visit, fast {fast:5.1} ns, ratio {ratio:.2}");
+    Walk { ratio, same }
+}
+
+/// The microseconds of one call from the dearest of three checkpoints: fresh, on the first way
+/// down, and late.
+fn time_calls(shape: &Shape) -> f64 {
+    let problem = shape.problem();
+    let mut library = LibrarySearch::start(&problem);
+    let times = [0, 40, 100_000].map(|visits| {
+        library.advance(visits);
+        let rounds = (0..ROUNDS).map(|_| timed(|| library.single_calls()));
+        rounds.min().unwrap_or_default().as_secs_f64() * 1e6 / f64::from(CALLS)
+    });
+    let [fresh, down, late] = times;
+    println!("  {shape}: {fresh:.1} us fresh, {down:.1} us after 40 visits, {late:.1} us later");
+    times.into_iter().fold(0.0, f64::max)
+}
+
+impl Shape {
+    fn problem(&self) -> Problem {
+        let mut random = Random::new(self.order as u64);
+        let style = Style {
+            vertex_labels: (1..=self.vertex_labels).collect(),
+            edge_labels: (1..=self.edge_labels).collect(),
+            density: self.density,
+        };
+        let mut one = || graph(&mut random, &style, self.order);
+        Problem {
+            old: one(),
+            new: one(),
+        }
+    }
+}
+
+impl std::fmt::Display for Shape {
+    fn fmt(&self, f: &mut std::fmt::Formatter) -> std::fmt::Result {
+        let Shape {
+            order,
+            vertex_labels,
+            edge_labels,
+            density,
+        } = self;
+        write!(
+            f,
+            "{order} vertices, {vertex_labels} + {edge_labels} labels, density {density:3} %"
+        )
+    }
+}
+
+/// A search through the C interface.
+struct LibrarySearch {
+    old: Vec<u8>,
+    new: Vec<u8>,
+    checkpoint: Vec<u8>,
+    workspace: Vec<u64>,
+}
+
+impl LibrarySearch {
+    fn start(problem: &Problem) -> LibrarySearch {
+        let (old, new) = (problem.old.save(), problem.new.save());
+        let mut checkpoint = vec![0; CHECKPOINT_BYTES];
+        let answer = library::start(&old, &new, 0, &mut checkpoint);
+        checkpoint.truncate(accepted(answer).value as usize);
+        LibrarySearch {
+            old,
+            new,
+            checkpoint,
+            workspace: vec![0; WORKSPACE_WORDS],
+        }
+    }
+
+    /// Answers the ceiling.
+    fn advance(&mut self, budget: u64) -> u64 {
+        let mut next = vec![0; CHECKPOINT_BYTES];
+        let answer = accepted(self.resume(budget, &mut next));
+        next.truncate(answer.value as usize);
+        self.checkpoint = next;
+        answer.ceiling
+    }
+
+    fn single_calls(&mut self) {
+        let mut next = [0; CHECKPOINT_BYTES];
+        for _ in 0..CALLS {
+            accepted(self.resume(1, &mut next));
+        }
+    }
+
+    fn resume(&mut self, budget: u64, next: &mut [u8]) -> Answer {
+        let LibrarySearch {
+            old,
+            new,
+            checkpoint,
+            workspace,
+        } = self;
+        library::resume(old, new, checkpoint, budget, workspace, next)
+    }
+}
+
+fn accepted(answer: Answer) -> Answer {
+    assert!(answer.is_accepted(), "refused: {answer:?}");
+    answer
+}
+
+fn timed(work: impl FnOnce()) -> Duration {
+    let begin = processor_time();
+    work();
+    processor_time() - begin
+}
+
+/// What this process has had of the processor (Linux, 64 bits).
+fn processor_time() -> Duration {
+    #[repr(C)]
+    struct Timespec {
+        seconds: u64,
+        nanoseconds: u64,
+    }
+    extern "C" {
+        fn clock_gettime(clock: i32, time: *mut Timespec) -> i32;
+    }
+    const CLOCK_PROCESS_CPUTIME_ID: i32 = 2;
+    let mut time = Timespec {
+        seconds: 0,
+        nanoseconds: 0,
+    };
+    let status = unsafe { clock_gettime(CLOCK_PROCESS_CPUTIME_ID, &raw mut time) };
+    assert_eq!(status, 0, "the processor's time cannot be read");
+    Duration::from_secs(time.seconds) + Duration::from_nanos(time.nanoseconds)
+}

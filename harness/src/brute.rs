@@ -1,0 +1,51 @@
+//! Brute force: every list of entries is judged by formula (1), with no tree and no bound.
+
+use crate::reference::{Problem, UNMAPPED};
+
+/// The first in the order among the largest common subgraphs, as bytes. There is one: all left out.
+pub fn largest(problem: &Problem) -> Vec<u8> {
+    let mut best = vec![UNMAPPED; problem.old.order()];
+    for_each_list(problem, &mut |list| {
+        if is_common(problem, list) && is_better(list, &best) {
+            best.copy_from_slice(list);
+        }
+    });
+    best
+}
+
+pub fn size(list: &[u8]) -> usize {
+    list.iter().filter(|&&byte| byte != UNMAPPED).count()
+}
+
+fn is_better(list: &[u8], best: &[u8]) -> bool {
+    size(list) > size(best) || (size(list) == size(best) && list < best)
+}
+
+fn is_common(problem: &Problem, list: &[u8]) -> bool {
+    let pairs: Vec<(usize, usize)> = (0..list.len())
+        .filter(|&row| list[row] != UNMAPPED)
+        .map(|row| (row, list[row].into()))
+        .collect();
+    let Problem { old, new } = problem;
+    pairs.iter().all(|&(x, y)| {
+        old.label(x) == new.label(y)
+            && pairs.iter().all(|&(other_x, other_y)| {
+                x == other_x || (y != other_y && old.edge(x, other_x) == new.edge(y, other_y))
+            })
+    })
+}
+
+/// Each list with one entry for each old vertex, a new vertex or left out, in no promised order.
+fn for_each_list(problem: &Problem, judge: &mut impl FnMut(&[u8])) {
+    let choices: Vec<u8> = (0..problem.new.order() as u8).chain([UNMAPPED]).collect();
+    let mut digits = vec![0; problem.old.order()];
+    loop {
+        let list: Vec<u8> = digits.iter().map(|&digit| choices[digit]).collect();
+        judge(&list);
+        let Some(row) = digits.iter().position(|&digit| digit + 1 < choices.len()) else {
+            return;
+        };
+        digits[..row].fill(0);
+        digits[row] += 1;
+    }
+}

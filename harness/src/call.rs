@@ -1,0 +1,260 @@
+//! One call of the C interface with all the memory lent to it, made by either implementation.
+
+use std::fmt::{self, Display};
+use std::ops::Range;
+
+use crate::answer::Answer;
+use crate::reference::WORKSPACE_WORDS;
+use crate::{library, reference};
+
+/// The five functions of include/golfcedar.h.
+#[allow(clippy::type_complexity)]
+pub struct Implementation {
+    pub name: &'static str,
+    pub check_graph: fn(&[u8]) -> Answer,
+    pub check_mapping: fn(&[u8], &[u8], &[u8]) -> Answer,
+    pub start: fn(&[u8], &[u8], u8, &mut [u8]) -> Answer,
+    pub resume: fn(&[u8], &[u8], &[u8], u64, &mut [u64], &mut [u8]) -> Answer,
+    pub read_out: fn(&[u8], &[u8], &[u8], &mut [u8]) -> Answer,
+}
+
+pub const LIBRARY: Implementation = Implementation {
+    name: "library",
+    check_graph: library::check_graph,
+    check_mapping: library::check_mapping,
+    start: library::start,
+    resume: library::resume,
+    read_out: library::read_out,
+};
+
+pub const REFERENCE: Implementation = Implementation {
+    name: "reference",
+    check_graph: reference::check_graph,
+    check_mapping: reference::check_mapping,
+    start: reference::start,
+    resume: reference::resume,
+    read_out: reference::read_out,
+};
+
+/// Memory lent for output, with a margin on both sides that shows a write out of bounds.
+#[derive(Clone, Debug, PartialEq, Eq)]
+pub struct Buffer<T> {
+    fill: T,
+    lent: Range<usize>,
+    cells: Vec<T>,
+}
+
+impl<T: Copy> Buffer<T> {
+    const MARGIN: usize = 9;
+
+    /// Lends `length` cells. There are `needed` in any case, so that a callee that does not look
+    /// at the length is found out and not killed.
+    pub fn filled(fill: T, length: usize, needed: usize) -> Buffer<T> {
+        Buffer {
+            fill,
+            lent: Self::MARGIN..Self::MARGIN + length,
+            cells: vec![fill; length.max(needed) + 2 * Self::MARGIN],
+        }
+    }
+
+    pub fn lent(&self) -> &[T] {
+        &self.cells[self.lent.clone()]
+    }
+
+    fn lend(&mut self) -> &mut [T] {
+        &mut self.cells[self.lent.clone()]
+    }
+}
+
+impl<T: Copy + Display + PartialEq> Display for Buffer<T> {
+    fn fmt(&self, f: &mut fmt::Formatter) -> fmt::Result {
+        write!(f, "{}", Listed(self.lent()))?;
+        let (before, after) = (&self.cells[..self.lent.start], &self.cells[self.lent.end..]);
+        for (side, margin) in [("before", before), ("after", after)] {
+            if margin.iter().any(|&cell| cell != self.fill) {
+                write!(f, ", WRITTEN {side} it: {}", Listed(margin))?;
+            }
+        }
+        Ok(())
+    }
+}
+
+/// Prints the length and the elements in base ten; five or more equal ones as "count * element".
+struct Listed<'a, T>(&'a [T]);
+
+impl<T: Display + PartialEq> Display for Listed<'_, T> {
+    fn fmt(&self, f: &mut fmt::Formatter) -> fmt::Result {
+        write!(f, "[{}]", self.0.len())?;
+        for run in self.0.chunk_by(PartialEq::eq) {
+            match run.len() {
+                1..5 => run.iter().try_for_each(|item| write!(f, " {item}"))?,
+                count => write!(f, " {count} * {}", run[0])?,
+            }
+        }
+        Ok(())
+    }
+}
+
+#[derive(Clone, Debug, PartialEq, Eq)]
+pub enum Call {
+    CheckGraph {
+        graph: Vec<u8>,
+    },
+    CheckMapping {
+        old: Vec<u8>,
+        new: Vec<u8>,
+        mapping: Vec<u8>,
+    },
+    Start {
+        old: Vec<u8>,
+        new: Vec<u8>,
+        minimum: u8,
+        checkpoint: Buffer<u8>,
+    },
+    Resume(Resume),
+    ReadOut {
+        old: Vec<u8>,
+        new: Vec<u8>,
+        checkpoint: Vec<u8>,
+        mapping: Buffer<u8>,
+    },
+}
+
+#[derive(Clone, Debug, PartialEq, Eq)]
+pub struct Resume {
+    pub old: Vec<u8>,
+    pub new: Vec<u8>,
+    pub checkpoint: Vec<u8>,
+    pub budget: u64,
+    pub workspace: Buffer<u64>,
+    pub next: Buffer<u8>,
+}
+
+impl Resume {
+    /// The outcome of this call if it is accepted with such a checkpoint and ceiling.
+    pub fn accepted(&self, next: &[u8], ceiling: u64) -> Outcome {
+        let mut memory = self.clone();
+        memory.workspace.lend()[..WORKSPACE_WORDS].fill(0);
+        memory.next.lend()[..next.len()].copy_from_slice(next);
+        Outcome {
+            answer: Answer {
+                ceiling,
+                ..Answer::accepted(next.len() as u64)
+            },
+            memory: Call::Resume(memory),
+        }
+    }
+}
+
+/// What a call answered, and the memory that was lent to it as it stands afterwards, inputs too.
+#[derive(Clone, Debug, PartialEq, Eq)]
+pub struct Outcome {
+    pub answer: Answer,
+    pub memory: Call,
+}
+
+impl Call {
+    pub fn made_by(&self, by: &Implementation) -> Outcome {
+        let mut memory = self.clone();
+        let answer = match &mut memory {
+            Call::CheckGraph { graph } => (by.check_graph)(graph),
+            Call::CheckMapping { old, new, mapping } => (by.check_mapping)(old, new, mapping),
+            Call::Start {
+                old,
+                new,
+                minimum,
+                checkpoint,
+            } => (by.start)(old, new, *minimum, checkpoint.lend()),
+            Call::Resume(call) => (by.resume)(
+                &call.old,
+                &call.new,
+                &call.checkpoint,
+                call.budget,
+                call.workspace.lend(),
+                call.next.lend(),
+            ),
+            Call::ReadOut {
+                old,
+                new,
+                checkpoint,
+                mapping,
+            } => (by.read_out)(old, new, checkpoint, mapping.lend()),
+        };
+        Outcome { answer, memory }
+    }
+
+    fn function(&self) -> &'static str {
+        match self {
+            Call::CheckGraph { .. } => "golfcedar_check_graph",
+            Call::CheckMapping { .. } => "golfcedar_check_mapping",
+            Call::Start { .. } => "golfcedar_start",
+            Call::Resume(_) => "golfcedar_resume",
+            Call::ReadOut { .. } => "golfcedar_read_out",
+        }
+    }
+
+    /// Each argument by name, as it is printed.
+    fn arguments(&self) -> Vec<(&'static str, String)> {
+        match self {
+            Call::CheckGraph { graph } => vec![("graph", Listed(graph).to_string())],
+            Call::CheckMapping { old, new, mapping } => vec![
+                ("old_graph", Listed(old).to_string()),
+                ("new_graph", Listed(new).to_string()),
+                ("mapping", Listed(mapping).to_string()),
+            ],
+            Call::Start {
+                old,
+                new,
+                minimum,
+                checkpoint,
+            } => vec![
+                ("old_graph", Listed(old).to_string()),
+                ("new_graph", Listed(new).to_string()),
+                ("minimum", minimum.to_string()),
+                ("checkpoint", checkpoint.to_string()),
+            ],
+            Call::Resume(call) => vec![
+                ("old_graph", Listed(&call.old).to_string()),
+                ("new_graph", Listed(&call.new).to_string()),
+                ("checkpoint", Listed(&call.checkpoint).to_string()),
+                ("budget", call.budget.to_string()),
+                ("workspace", call.workspace.to_string()),
+                ("next", call.next.to_string()),
+            ],
+            Call::ReadOut {
+                old,
+                new,
+                checkpoint,
+                mapping,
+            } => vec![
+                ("old_graph", Listed(old).to_string()),
+                ("new_graph", Listed(new).to_string()),
+                ("checkpoint", Listed(checkpoint).to_string()),
+                ("mapping", mapping.to_string()),
+            ],
+        }
+    }
+}
+
+impl Display for Call {
+    fn fmt(&self, f: &mut fmt::Formatter) -> fmt::Result {
+        writeln!(f, "{}", self.function())?;
+        for (name, text) in self.arguments() {
+            writeln!(f, "  {name}: {text}")?;
+        }
+        Ok(())
+    }
+}
+
+impl Outcome {
+    /// The answer, and the arguments that the call changed.
+    pub fn describe(&self, before: &Call) -> String {
+        let mut text = format!("{:?}\n", self.answer);
+        for (then, (name, now)) in before.arguments().iter().zip(self.memory.arguments()) {
+            if then.1 != now {
+                text += &format!("  {name} afterwards: {now}\n");
+            }
+        }
+        text
+    }
+}

@@ -1,0 +1,288 @@
+//! Random inputs: graphs and their bytes, mappings, checkpoints, and damage to each.
+
+use std::ops::Range;
+
+use crate::random::Random;
+use crate::reference::{entries_from_bytes, entries_to_bytes, size, Checkpoint, Entry};
+use crate::reference::{Graph, Node, Problem, MAX_VERTICES, UNMAPPED};
+
+/// The end of a range that has every number of vertices in it.
+pub const ANY_ORDER: usize = MAX_VERTICES + 1;
+
+/// What the graphs of one problem have in common.
+pub struct Style {
+    pub vertex_labels: Vec<u8>,
+    pub edge_labels: Vec<u8>,
+    /// Chance of an edge, in percent.
+    pub density: usize,
+}
+
+impl Style {
+    pub fn random(random: &mut Random) -> Style {
+        let mut alphabet = [1, 2, 7, 9, 64, 200, 255];
+        random.shuffle(&mut alphabet);
+        let vertex_labels = alphabet[..random.pick(&[1, 1, 2, 2, 3])].to_vec();
+        random.shuffle(&mut alphabet);
+        let edge_labels = if random.percent(5) {
+            (1..=255).collect()
+        } else {
+            alphabet[..random.pick(&[1, 1, 2, 3])].to_vec()
+        };
+        Style {
+            vertex_labels,
+            edge_labels,
+            density: random.pick(&[0, 20, 30, 30, 50, 80, 100]),
+        }
+    }
+}
+
+pub fn graph(random: &mut Random, style: &Style, order: usize) -> Graph {
+    let mut graph = Graph::default();
+    for vertex in 0..order {
+        graph.add_vertex(random.pick(&style.vertex_labels)).unwrap();
+        for earlier in 0..vertex {
+            if random.percent(style.density) {
+                let label = random.pick(&style.edge_labels);
+                graph.add_edge(earlier, vertex, label).unwrap();
+            }
+        }
+    }
+    graph
+}
+
+/// Two graphs of the same style; at times the new one is a part of the old one, shuffled.
+pub fn problem(random: &mut Random, orders: Range<usize>) -> Problem {
+    let style = Style::random(random);
+    let order = random.within(orders.clone());
+    let old = graph(random, &style, order);
+    let new = if random.percent(30) {
+        shuffled_part(random, &old)
+    } else {
+        let order = random.within(orders);
+        graph(random, &style, order)
+    };
+    Problem { old, new }
+}
+
+fn shuffled_part(random: &mut Random, whole: &Graph) -> Graph {
+    let mut vertices: Vec<usize> = (0..whole.order()).collect();
+    random.shuffle(&mut vertices);
+    vertices.truncate(random.within(whole.order() / 2..whole.order() + 1));
+    let mut part = Graph::default();
+    for (number, &vertex) in vertices.iter().enumerate() {
+        part.add_vertex(whole.label(vertex)).unwrap();
+        for (earlier, &other) in vertices[..number].iter().enumerate() {
+            match whole.edge(other, vertex) {
+                0 => {}
+                label => part.add_edge(earlier, number, label).unwrap(),
+            }
+        }
+    }
+    part
+}
+
+/// Bytes of a graph as any writer may give them: edges anywhere after their vertices, either
+/// number first.
+pub fn graph_bytes(random: &mut Random, graph: &Graph) -> Vec<u8> {
+    if random.percent(30) {
+        return graph.save();
+    }
+    let mut edges: Vec<_> = graph.edges().collect();
+    random.shuffle(&mut edges);
+    let mut bytes = Vec::new();
+    for vertex in 0..graph.order() {
+        bytes.extend([1, graph.label(vertex)]);
+        let (now, later): (Vec<_>, Vec<_>) = edges
+            .into_iter()
+            .partition(|&(_, b, _)| b <= vertex && random.percent(60));
+        bytes.extend(now.iter().flat_map(|&edge| edge_command(random, edge)));
+        edges = later;
+    }
+    bytes.extend(edges.iter().flat_map(|&edge| edge_command(random, edge)));
+    bytes.push(0);
+    bytes
+}
+
+fn edge_command(random: &mut Random, (a, b, label): (usize, usize, u8)) -> [u8; 4] {
+    if random.percent(50) {
+        [2, a as u8, b as u8, label]
+    } else {
+        [2, b as u8, a as u8, label]
+    }
+}
+
+/// Bytes to be judged as a graph: sound, damaged, random or extreme.
+pub fn any_graph_bytes(random: &mut Random) -> Vec<u8> {
+    match random.within(0..20) {
+        0..3 => random_bytes(random),
+        3..6 => extreme_graph_bytes(random),
+        6..12 => small_graph_bytes(random),
+        _ => {
+            let mut bytes = small_graph_bytes(random);
+            damage(random, &mut bytes);
+            bytes
+        }
+    }
+}
+
+fn small_graph_bytes(random: &mut Random) -> Vec<u8> {
+    let style = Style::random(random);
+    let order = random.within(0..9);
+    let graph = graph(random, &style, order);
+    graph_bytes(random, &graph)
+}
+
+/// None or 64 vertices, or a command for a 65th; no edges or all; sometimes damaged.
+fn extreme_graph_bytes(random: &mut Random) -> Vec<u8> {
+    let mut style = Style::random(random);
+    style.density = random.pick(&[0, 0, 0, 10, 100]);
+    let order = random.pick(&[0, 63, 64, 64]);
+    let graph = graph(random, &style, order);
+    let mut bytes = graph.save();
+    if random.percent(40) {
+        let command = 2 * random.within(0..order + 1);
+        bytes.splice(command..command, [1, random.pick(&[0, 1, 255])]);
+    }
+    if random.percent(30) {
+        damage(random, &mut bytes);
+    }
+    bytes
+}
+
+/// Mostly bytes that mean something.
+fn random_bytes(random: &mut Random) -> Vec<u8> {
+    let length = random.within(0..14);
+    (0..length).map(|_| telling_byte(random)).collect()
+}
+
+fn telling_byte(random: &mut Random) -> u8 {
+    if random.percent(80) {
+        random.pick(&[0, 0, 1, 1, 1, 2, 2, 3, 4, 16, 17, 18, 19, 20, 63, 64, 255])
+    } else {
+        random.byte()
+    }
+}
+
+/// A byte changed, inserted or deleted, a tail cut off or added, or a stretch repeated.
+pub fn damage(random: &mut Random, bytes: &mut Vec<u8>) {
+    let place = random.within(0..bytes.len() + 1);
+    let byte = telling_byte(random);
+    match random.within(0..8) {
+        0..3 if place < bytes.len() => bytes[place] = byte,
+        3 if place < bytes.len() => drop(bytes.remove(place)),
+        4 => bytes.truncate(place),
+        5 => bytes.resize(bytes.len() + random.pick(&[1, 2, 300]), byte),
+        6 => {
+            let end = bytes.len().min(place + random.within(1..5));
+            let stretch = bytes[place..end].to_vec();
+            bytes.splice(place..place, stretch);
+        }
+        _ => bytes.insert(place, byte),
+    }
+}
+
+/// A node of the search tree at `depth`, reached by random choices.
+pub fn random_path(random: &mut Random, problem: &Problem, depth: usize) -> Vec<Entry> {
+    let left_out = random.pick(&[0, 10, 50]);
+    let mut node = Node::root(problem);
+    let mut path = Vec::new();
+    for _ in 0..depth {
+        let choice = if random.percent(left_out) {
+            None
+        } else {
+            random.pick(&node.choices())
+        };
+        path.push(choice);
+        node = node.child(choice);
+    }
+    path
+}
+
+/// Bytes to be judged as a mapping: a common subgraph, damaged or not, or random, or of any length.
+pub fn any_mapping(random: &mut Random, problem: &Problem) -> Vec<u8> {
+    let order = problem.old.order();
+    let mut mapping = entries_to_bytes(&random_path(random, problem, order));
+    match random.within(0..10) {
+        0..3 => {}
+        3..7 => change_entries(random, problem, &mut mapping),
+        7 => mapping.fill_with(|| any_entry(random, problem)),
+        8 => mapping.resize(random.within(0..order + 3), 0),
+        _ => mapping.resize(random.pick(&[0, 63, 64, 65, 255, 300]), UNMAPPED),
+    }
+    mapping
+}
+
+fn change_entries(random: &mut Random, problem: &Problem, mapping: &mut [u8]) {
+    for _ in 0..random.within(1..4) {
+        if !mapping.is_empty() {
+            mapping[random.within(0..mapping.len())] = any_entry(random, problem);
+        }
+    }
+}
+
+fn any_entry(random: &mut Random, problem: &Problem) -> u8 {
+    let order = problem.new.order();
+    match random.within(0..10) {
+        0 => UNMAPPED,
+        1 => order as u8,
+        2 => random.byte(),
+        _ => random.within(0..order.max(1)) as u8,
+    }
+}
+
+/// A checkpoint in shape that, but for luck, no walk makes.
+pub fn crafted_checkpoint(random: &mut Random, problem: &Problem) -> Checkpoint {
+    let order = problem.old.order();
+    let finished = order == 0 || random.percent(15);
+    let depth = match random.within(0..5) {
+        _ if finished => 0,
+        0 => order,
+        _ => random.within(1..order + 1),
+    };
+    let held = random
+        .percent(50)
+        .then(|| random_path(random, problem, order));
+    let minimum = match &held {
+        Some(mapping) => random.within(0..size(mapping) + 1) as u8,
+        None => random.pick(&[0, 1, 2, 3, 5, 64, 255]),
+    };
+    Checkpoint {
+        minimum,
+        steps: random.pick(&[1, 2, 1000, 1 << 32, u64::MAX - 40, u64::MAX - 1, u64::MAX]),
+        path: random_path(random, problem, depth),
+        finished,
+        incumbent: held,
+    }
+}
+
+/// Breaks, or seems to break, one clause of the shape or of the form.
+pub fn misshape(random: &mut Random, problem: &Problem, checkpoint: &mut Checkpoint) {
+    let order = problem.old.order();
+    let entry = entries_from_bytes(&[any_entry(random, problem)])[0];
+    match random.within(0..12) {
+        0..3 => change_entry(random, &mut checkpoint.path, entry),
+        3 => checkpoint.finished = !checkpoint.finished,
+        4 => checkpoint.steps = 0,
+        5 => checkpoint.path.clear(),
+        6 => checkpoint.path.resize(order + 1, entry),
+        7 => checkpoint.minimum = checkpoint.minimum.wrapping_add(random.pick(&[1, 2, 255])),
+        8 => checkpoint.incumbent = Some(vec![entry; order]),
+        9 => checkpoint.incumbent = None,
+        10 => {
+            let incumbent = checkpoint.incumbent.take();
+            *checkpoint = Checkpoint::fresh(checkpoint.minimum);
+            checkpoint.incumbent = incumbent;
+        }
+        _ => {
+            if let Some(mapping) = &mut checkpoint.incumbent {
+                change_entry(random, mapping, entry);
+            }
+        }
+    }
+}
+
+fn change_entry(random: &mut Random, entries: &mut [Entry], entry: Entry) {
+    if !entries.is_empty() {
+        entries[random.within(0..entries.len())] = entry;
+    }
+}

@@ -1,0 +1,187 @@
+//! The C interface of the proved search, and safe functions over it. Nothing checks these
+//! declarations against the Rattle source: they copy include/golfcedar.h by hand, and stand in this
+//! file only.
+
+use crate::answer::Answer;
+
+mod c {
+    extern "C" {
+        pub fn golfcedar_check_graph(graph: *const u8, graph_len: usize, value: *mut u64) -> u32;
+
+        pub fn golfcedar_check_mapping(
+            old_graph: *const u8,
+            old_len: usize,
+            new_graph: *const u8,
+            new_len: usize,
+            mapping: *const u8,
+            mapping_len: usize,
+            value: *mut u64,
+            earlier: *mut u64,
+        ) -> u32;
+
+        pub fn golfcedar_start(
+            old_graph: *const u8,
+            old_len: usize,
+            new_graph: *const u8,
+            new_len: usize,
+            minimum: u8,
+            checkpoint: *mut u8,
+            checkpoint_len: usize,
+            value: *mut u64,
+        ) -> u32;
+
+        pub fn golfcedar_resume(
+            old_graph: *const u8,
+            old_len: usize,
+            new_graph: *const u8,
+            new_len: usize,
+            checkpoint: *const u8,
+            checkpoint_len: usize,
+            budget: u64,
+            workspace: *mut u64,
+            workspace_words: usize,
+            next: *mut u8,
+            next_len: usize,
+            value: *mut u64,
+            ceiling: *mut u64,
+        ) -> u32;
+
+        pub fn golfcedar_read_out(
+            old_graph: *const u8,
+            old_len: usize,
+            new_graph: *const u8,
+            new_len: usize,
+            checkpoint: *const u8,
+            checkpoint_len: usize,
+            mapping: *mut u8,
+            mapping_len: usize,
+            value: *mut u64,
+            steps: *mut u64,
+            size: *mut u64,
+            ceiling: *mut u64,
+        ) -> u32;
+    }
+}
+
+pub const CHECKPOINT_BYTES: usize = 270;
+pub const WORKSPACE_WORDS: usize = 4160;
+pub const MAX_VERTICES: usize = 64;
+pub const UNMAPPED: u8 = 255;
+
+/// What a number result holds before a call: a result that is not stored shows.
+const NOT_STORED: u64 = 0xA5A5_A5A5_A5A5_A5A5;
+
+pub fn check_graph(graph: &[u8]) -> Answer {
+    let mut value = NOT_STORED;
+    let number = unsafe { c::golfcedar_check_graph(graph.as_ptr(), graph.len(), &raw mut value) };
+    Answer {
+        number,
+        value,
+        ..Answer::default()
+    }
+}
+
+pub fn check_mapping(old: &[u8], new: &[u8], mapping: &[u8]) -> Answer {
+    let [mut value, mut earlier] = [NOT_STORED; 2];
+    let number = unsafe {
+        c::golfcedar_check_mapping(
+            old.as_ptr(),
+            old.len(),
+            new.as_ptr(),
+            new.len(),
+            mapping.as_ptr(),
+            mapping.len(),
+            &raw mut value,
+            &raw mut earlier,
+        )
+    };
+    Answer {
+        number,
+        value,
+        earlier,
+        ..Answer::default()
+    }
+}
+
+pub fn start(old: &[u8], new: &[u8], minimum: u8, checkpoint: &mut [u8]) -> Answer {
+    let mut value = NOT_STORED;
+    let number = unsafe {
+        c::golfcedar_start(
+            old.as_ptr(),
+            old.len(),
+            new.as_ptr(),
+            new.len(),
+            minimum,
+            checkpoint.as_mut_ptr(),
+            checkpoint.len(),
+            &raw mut value,
+        )
+    };
+    Answer {
+        number,
+        value,
+        ..Answer::default()
+    }
+}
+
+pub fn resume(
+    old: &[u8],
+    new: &[u8],
+    checkpoint: &[u8],
+    budget: u64,
+    workspace: &mut [u64],
+    next: &mut [u8],
+) -> Answer {
+    let [mut value, mut ceiling] = [NOT_STORED; 2];
+    let number = unsafe {
+        c::golfcedar_resume(
+            old.as_ptr(),
+            old.len(),
+            new.as_ptr(),
+            new.len(),
+            checkpoint.as_ptr(),
+            checkpoint.len(),
+            budget,
+            workspace.as_mut_ptr(),
+            workspace.len(),
+            next.as_mut_ptr(),
+            next.len(),
+            &raw mut value,
+            &raw mut ceiling,
+        )
+    };
+    Answer {
+        number,
+        value,
+        ceiling,
+        ..Answer::default()
+    }
+}
+
+pub fn read_out(old: &[u8], new: &[u8], checkpoint: &[u8], mapping: &mut [u8]) -> Answer {
+    let [mut value, mut steps, mut size, mut ceiling] = [NOT_STORED; 4];
+    let number = unsafe {
+        c::golfcedar_read_out(
+            old.as_ptr(),
+            old.len(),
+            new.as_ptr(),
+            new.len(),
+            checkpoint.as_ptr(),
+            checkpoint.len(),
+            mapping.as_mut_ptr(),
+            mapping.len(),
+            &raw mut value,
+            &raw mut steps,
+            &raw mut size,
+            &raw mut ceiling,
+        )
+    };
+    Answer {
+        number,
+        value,
+        steps,
+        size,
+        ceiling,
+        ..Answer::default()
+    }
+}

@@ -1,0 +1,70 @@
+//! The second implementation: 01's rules, plain and recursive, one definition for each sentence.
+
+mod calls;
+mod checkpoint;
+mod graph;
+mod mapping;
+mod search;
+
+pub use calls::{check_graph, check_mapping, read_out, resume, start};
+pub use calls::{CHECKPOINT_BYTES, WORKSPACE_WORDS};
+pub use checkpoint::Checkpoint;
+pub use graph::{Graph, Problem, MAX_VERTICES};
+pub use mapping::{check, entries_from_bytes, entries_to_bytes, size, Entry, UNMAPPED};
+pub use search::{advance, ceiling, Node};
+
+/// Why an input is refused, by 01's number.
+#[derive(Clone, Copy, Debug, PartialEq, Eq)]
+pub enum Reason {
+    CutOff = 1,
+    UnknownCommand = 2,
+    VertexLabelZero = 3,
+    TooManyVertices = 4,
+    VertexNotGiven = 5,
+    EdgeToItself = 6,
+    EdgeLabelZero = 7,
+    EdgeGivenAlready = 8,
+    BytesAfterEnd = 9,
+    OutputTooShort = 13,
+    NotInShape = 14,
+    WorkspaceTooShort = 15,
+    StepsOverflow = 16,
+    NotInForm = 17,
+    WrongLength = 18,
+    NoNewVertex = 19,
+    SameNewVertex = 20,
+    LabelsDiffer = 21,
+    EdgesDiffer = 22,
+}
+
+/// A reason with the place or row that 01 gives along with it, 0 where it gives none.
+#[derive(Clone, Copy, Debug, PartialEq, Eq)]
+pub struct Refusal {
+    pub reason: Reason,
+    pub value: usize,
+    pub earlier: usize,
+}
+
+impl Refusal {
+    pub fn at(reason: Reason, value: usize) -> Refusal {
+        Refusal {
+            reason,
+            value,
+            earlier: 0,
+        }
+    }
+
+    pub fn against(reason: Reason, row: usize, earlier: usize) -> Refusal {
+        Refusal {
+            reason,
+            value: row,
+            earlier,
+        }
+    }
+}
+
+impl From<Reason> for Refusal {
+    fn from(reason: Reason) -> Refusal {
+        Refusal::at(reason, 0)
+    }
+}

@@ -1,0 +1,101 @@
+//! The five functions of include/golfcedar.h: their answers, and what they leave in lent memory.
+
+use super::{advance, ceiling, check, entries_from_bytes, entries_to_bytes, size};
+use super::{Checkpoint, Graph, Problem, Reason, Refusal, MAX_VERTICES};
+use crate::answer::Answer;
+
+pub const CHECKPOINT_BYTES: usize = 270;
+pub const WORKSPACE_WORDS: usize = 4160;
+
+pub fn check_graph(graph: &[u8]) -> Answer {
+    answer(Graph::parse(graph).map(|graph| Answer::accepted(graph.order() as u64)))
+}
+
+pub fn check_mapping(old: &[u8], new: &[u8], mapping: &[u8]) -> Answer {
+    let checked = Problem::parse(old, new)
+        .and_then(|problem| check(&problem, &entries_from_bytes(mapping)))
+        .map(|size| Answer::accepted(size as u64));
+    answer(checked)
+}
+
+pub fn start(old: &[u8], new: &[u8], minimum: u8, checkpoint: &mut [u8]) -> Answer {
+    let started = room(checkpoint, CHECKPOINT_BYTES)
+        .and_then(|()| Problem::parse(old, new))
+        .map(|_| Answer::accepted(fill(checkpoint, &Checkpoint::fresh(minimum).save())));
+    answer(started)
+}
+
+pub fn resume(
+    old: &[u8],
+    new: &[u8],
+    checkpoint: &[u8],
+    budget: u64,
+    workspace: &mut [u64],
+    next: &mut [u8],
+) -> Answer {
+    let resumed = room(next, CHECKPOINT_BYTES)
+        .and_then(|()| Problem::parse(old, new))
+        .and_then(|problem| {
+            let checkpoint = Checkpoint::load(&problem, checkpoint)?;
+            may_advance(&checkpoint, budget, workspace)?;
+            let after = advance(&problem, &checkpoint, budget);
+            workspace[..WORKSPACE_WORDS].fill(0);
+            Ok(Answer {
+                value: fill(next, &after.save()),
+                ceiling: ceiling(&problem, &after) as u64,
+                ..Answer::default()
+            })
+        });
+    answer(resumed)
+}
+
+pub fn read_out(old: &[u8], new: &[u8], checkpoint: &[u8], mapping: &mut [u8]) -> Answer {
+    let read = room(mapping, MAX_VERTICES)
+        .and_then(|()| Problem::parse(old, new))
+        .and_then(|problem| {
+            let checkpoint = Checkpoint::load(&problem, checkpoint)?;
+            let incumbent = checkpoint.incumbent.as_deref().unwrap_or_default();
+            fill(mapping, &entries_to_bytes(incumbent));
+            Ok(Answer {
+                value: checkpoint.state().into(),
+                steps: checkpoint.steps,
+                size: size(incumbent) as u64,
+                ceiling: ceiling(&problem, &checkpoint) as u64,
+                ..Answer::default()
+            })
+        });
+    answer(read)
+}
+
+fn may_advance(checkpoint: &Checkpoint, budget: u64, workspace: &[u64]) -> Result<(), Refusal> {
+    if workspace.len() < WORKSPACE_WORDS {
+        return Err(Reason::WorkspaceTooShort.into());
+    }
+    if !checkpoint.finished && checkpoint.steps.checked_add(budget).is_none() {
+        return Err(Reason::StepsOverflow.into());
+    }
+    Ok(())
+}
+
+fn room(output: &[u8], least: usize) -> Result<(), Refusal> {
+    if output.len() < least {
+        Err(Reason::OutputTooShort.into())
+    } else {
+        Ok(())
+    }
+}
+
+/// Stores `bytes` at the front of `output`, and answers how many these are.
+fn fill(output: &mut [u8], bytes: &[u8]) -> u64 {
+    output[..bytes.len()].copy_from_slice(bytes);
+    bytes.len() as u64
+}
+
+fn answer(result: Result<Answer, Refusal>) -> Answer {
+    result.unwrap_or_else(|refusal| Answer {
+        number: refusal.reason as u32,
+        value: refusal.value as u64,
+        earlier: refusal.earlier as u64,
+        ..Answer::default()
+    })
+}

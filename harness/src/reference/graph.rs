@@ -1,0 +1,107 @@
+//! Graphs, and graph bytes read and judged (01, "Charts").
+
+use super::{Reason, Refusal};
+
+pub const MAX_VERTICES: usize = 64;
+
+#[derive(Clone, Debug, Default, PartialEq, Eq)]
+pub struct Graph {
+    labels: Vec<u8>,
+    /// The label of the edge of a and b at `edges[a][b]` for b < a; 0 for the null edge.
+    edges: Vec<Vec<u8>>,
+}
+
+impl Graph {
+    pub fn parse(bytes: &[u8]) -> Result<Graph, Refusal> {
+        let mut graph = Graph::default();
+        let mut place = 0;
+        loop {
+            let (judged, width) = match bytes[place..] {
+                [0] => return Ok(graph),
+                [0, ..] => return Err(Refusal::at(Reason::BytesAfterEnd, place + 1)),
+                [1, label, ..] => (graph.add_vertex(label), 2),
+                [2, a, b, label, ..] => (graph.add_edge(a.into(), b.into(), label), 4),
+                [] | [1 | 2, ..] => (Err(Reason::CutOff), 0),
+                _ => (Err(Reason::UnknownCommand), 0),
+            };
+            judged.map_err(|reason| Refusal::at(reason, place))?;
+            place += width;
+        }
+    }
+
+    /// All vertices, then the edges with a < b by rising a, then rising b, then the end.
+    pub fn save(&self) -> Vec<u8> {
+        let vertices = self.labels.iter().flat_map(|&label| [1, label]);
+        let edges = self
+            .edges()
+            .flat_map(|(a, b, label)| [2, a as u8, b as u8, label]);
+        vertices.chain(edges).chain([0]).collect()
+    }
+
+    /// The edges that are not null: a < b and the label, by rising a, then rising b.
+    pub fn edges(&self) -> impl Iterator<Item = (usize, usize, u8)> + '_ {
+        let pairs = (0..self.order()).flat_map(|a| (a + 1..self.order()).map(move |b| (a, b)));
+        pairs
+            .map(|(a, b)| (a, b, self.edge(a, b)))
+            .filter(|&(_, _, label)| label != 0)
+    }
+
+    pub fn add_vertex(&mut self, label: u8) -> Result<(), Reason> {
+        if label == 0 {
+            return Err(Reason::VertexLabelZero);
+        }
+        if self.order() == MAX_VERTICES {
+            return Err(Reason::TooManyVertices);
+        }
+        self.edges.push(vec![0; self.order()]);
+        self.labels.push(label);
+        Ok(())
+    }
+
+    pub fn add_edge(&mut self, a: usize, b: usize, label: u8) -> Result<(), Reason> {
+        if a.max(b) >= self.order() {
+            return Err(Reason::VertexNotGiven);
+        }
+        if a == b {
+            return Err(Reason::EdgeToItself);
+        }
+        if label == 0 {
+            return Err(Reason::EdgeLabelZero);
+        }
+        if self.edge(a, b) != 0 {
+            return Err(Reason::EdgeGivenAlready);
+        }
+        self.edges[a.max(b)][a.min(b)] = label;
+        Ok(())
+    }
+
+    /// 01's n.
+    pub fn order(&self) -> usize {
+        self.labels.len()
+    }
+
+    pub fn label(&self, vertex: usize) -> u8 {
+        self.labels[vertex]
+    }
+
+    /// Of two different vertices.
+    pub fn edge(&self, a: usize, b: usize) -> u8 {
+        self.edges[a.max(b)][a.min(b)]
+    }
+}
+
+/// The two graphs of a search.
+#[derive(Clone, Debug, PartialEq, Eq)]
+pub struct Problem {
+    pub old: Graph,
+    pub new: Graph,
+}
+
+impl Problem {
+    pub fn parse(old: &[u8], new: &[u8]) -> Result<Problem, Refusal> {
+        Ok(Problem {
+            old: Graph::parse(old)?,
+            new: Graph::parse(new)?,
+        })
+    }
+}

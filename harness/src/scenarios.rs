@@ -1,0 +1,426 @@
+//! The kinds of comparison. A kind and a seed give one case: one call or a list of calls, each
+//! made by the library and by the second implementation.
+
+use std::collections::BTreeMap;
+
+use crate::answer::Answer;
+use crate::brute;
+use crate::call::{Buffer, Call, Outcome, Resume, LIBRARY, REFERENCE};
+use crate::cases::{self, ANY_ORDER};
+use crate::fast;
+use crate::random::Random;
+use crate::reference::{advance, entries_from_bytes, entries_to_bytes, Checkpoint, Problem};
+use crate::reference::{CHECKPOINT_BYTES, MAX_VERTICES, WORKSPACE_WORDS};
+
+/// The error is what to print about a disagreement.
+pub type Verdict<T> = Result<T, String>;
+
+type Scenario = fn(&mut Judge, &mut Random) -> Verdict<()>;
+
+#[derive(Clone, Copy)]
+pub struct Kind {
+    pub name: &'static str,
+    /// Cases of this kind in each thousand.
+    pub share: usize,
+    scenario: Scenario,
+}
+
+pub const KINDS: [Kind; 9] = [
+    kind("graph", 240, graph),
+    kind("mapping", 200, mapping),
+    kind("start", 50, start),
+    kind("crafted", 180, crafted),
+    kind("damaged", 160, damaged),
+    kind("small", 140, small),
+    kind("middle", 22, middle),
+    kind("large", 3, large),
+    kind("long", 5, long),
+];
+
+const fn kind(name: &'static str, share: usize, scenario: Scenario) -> Kind {
+    Kind {
+        name,
+        share,
+        scenario,
+    }
+}
+
+impl Kind {
+    pub fn named(name: &str) -> Option<Kind> {
+        KINDS.into_iter().find(|kind| kind.name == name)
+    }
+
+    pub fn run(&self, judge: &mut Judge, seed: u64) -> Verdict<()> {
+        (self.scenario)(judge, &mut Random::new(seed))
+    }
+}
+
+/// Compares outcomes, and counts the comparisons.
+#[derive(Default)]
+pub struct Judge {
+    pub comparisons: u64,
+    /// How often each number was answered.
+    pub answers: BTreeMap<u32, u64>,
+    /// Print the calls that agree too.
+    pub aloud: bool,
+}
+
+impl Judge {
+    fn compare(&mut self, call: Call) -> Verdict<Outcome> {
+        let expected = call.made_by(&REFERENCE);
+        self.compare_with(call, expected)
+    }
+
+    fn compare_with(&mut self, call: Call, expected: Outcome) -> Verdict<Outcome> {
+        if self.aloud {
+            print!("{call}");
+        }
+        let outcome = call.made_by(&LIBRARY);
+        self.comparisons += 1;
+        *self.answers.entry(expected.answer.number).or_default() += 1;
+        let both = || {
+            let [library, wanted] = [&outcome, &expected].map(|outcome| outcome.describe(&call));
+            format!("library: {library}expected: {wanted}")
+        };
+        if outcome != expected {
+            return Err(format!("this call disagrees: {call}{}", both()));
+        }
+        if self.aloud {
+            println!("{}", both());
+        }
+        Ok(outcome)
+    }
+}
+
+fn graph(judge: &mut Judge, random: &mut Random) -> Verdict<()> {
+    let graph = cases::any_graph_bytes(random);
+    judge.compare(Call::CheckGraph { graph }).map(drop)
+}
+
+fn mapping(judge: &mut Judge, random: &mut Random) -> Verdict<()> {
+    let most = random.pick(&[4, 9, 9, 9, 20, ANY_ORDER]);
+    let problem = cases::problem(random, 0..most);
+    let [mut old, mut new] = problem_bytes(random, &problem);
+    if random.percent(5) {
+        damage_graph(random, &mut old, &mut new);
+    }
+    let mapping = cases::any_mapping(random, &problem);
+    let call = Call::CheckMapping { old, new, mapping };
+    judge.compare(call).map(drop)
+}
+
+fn start(judge: &mut Judge, random: &mut Random) -> Verdict<()> {
+    let problem = cases::problem(random, 0..6);
+    let [mut old, mut new] = problem_bytes(random, &problem);
+    if random.percent(30) {
+        damage_graph(random, &mut old, &mut new);
+    }
+    let call = Call::Start {
+        old,
+        new,
+        minimum: random.byte(),
+        checkpoint: output(random, CHECKPOINT_BYTES, 20),
+    };
+    judge.compare(call).map(drop)
+}
+
+/// Checkpoints that no walk made, in shape or nearly so.
+fn crafted(judge: &mut Judge, random: &mut Random) -> Verdict<()> {
+    let orders = match random.within(0..100) {
+        0 => 60..ANY_ORDER,
+        1..15 => 0..3,
+        15..40 => 0..6,
+        _ => 3..14,
+    };
+    let problem = cases::problem(random, orders);
+    let mut checkpoint = cases::crafted_checkpoint(random, &problem);
+    if random.percent(40) {
+        cases::misshape(random, &problem, &mut checkpoint);
+    }
+    let mut caller = Caller::with(random, &problem, checkpoint.save());
+    caller.read_out(judge, random)?;
+    let room = u64::MAX - checkpoint.steps;
+    let budget = match random.within(0..4) {
+        0 if room < 100 => room + 1,
+        1 if room < 100 => room,
+        _ => random.within(0..120) as u64,
+    };
+    caller.resume(judge, random, budget)?;
+    caller.read_out(judge, random)
+}
+
+/// A search cut at a random visit, and its checkpoint's bytes damaged.
+fn damaged(judge: &mut Judge, random: &mut Random) -> Verdict<()> {
+    let problem = cases::problem(random, 0..8);
+    let fresh = Checkpoint::fresh(random.within(0..4) as u8);
+    let visits = random.within(0..60) as u64;
+    let mut checkpoint = advance(&problem, &fresh, visits).save();
+    for _ in 0..random.within(1..3) {
+        cases::damage(random, &mut checkpoint);
+    }
+    let mut caller = Caller::with(random, &problem, checkpoint);
+    caller.read_out(judge, random)?;
+    let budget = random.within(0..60) as u64;
+    caller.resume(judge, random, budget)
+}
+
+/// Whole searches, against brute force too.
+fn small(judge: &mut Judge, random: &mut Random) -> Verdict<()> {
+    let problem = cases::problem(random, 0..6);
+    let minimum = random.pick(&[0, 0, 1, 2, 3, 5, 255]);
+    let budgets = |random: &mut Random, steps| match random.within(0..12) {
+        0 => random.pick(&[u64::MAX - steps, 1 << 32, 1 << 63]),
+        1..4 => random.within(0..200) as u64,
+        _ => random.within(0..12) as u64,
+    };
+    let last = session(judge, random, &problem, minimum, 12, budgets)?;
+    if last.finished {
+        agrees_with_brute_force(&problem, &last)
+    } else {
+        Ok(())
+    }
+}
+
+/// Searches cut into several calls, mostly never finished.
+fn middle(judge: &mut Judge, random: &mut Random) -> Verdict<()> {
+    let problem = cases::problem(random, 6..25);
+    let minimum = random.pick(&[0, 0, 2, 5, 8]);
+    let budgets = |random: &mut Random, _| match random.within(0..10) {
+        0 => 0,
+        1..6 => random.within(1..30) as u64,
+        _ => random.within(30..600) as u64,
+    };
+    session(judge, random, &problem, minimum, 9, budgets).map(drop)
+}
+
+fn large(judge: &mut Judge, random: &mut Random) -> Verdict<()> {
+    let least = random.pick(&[40, 40, MAX_VERTICES]);
+    let problem = cases::problem(random, least..ANY_ORDER);
+    let minimum = random.pick(&[0, 0, 10, 20]);
+    let budgets = |random: &mut Random, _| random.within(0..150) as u64;
+    session(judge, random, &problem, minimum, 3, budgets).map(drop)
+}
+
+/// Walks so long that only the fast one keeps up.
+fn long(judge: &mut Judge, random: &mut Random) -> Verdict<()> {
+    let problem = cases::problem(random, 20..ANY_ORDER);
+    let minimum = random.pick(&[0, 0, 5, 10]);
+    let fresh = Checkpoint::fresh(minimum).save();
+    let mut caller = Caller::with(random, &problem, fresh);
+    let mut search = fast::Search::start(&problem, minimum);
+    for _ in 0..3 {
+        let budget = random.within(0..60_000) as u64;
+        search.advance(budget);
+        let next = search.checkpoint().save();
+        let call = caller.resume_call(random, budget);
+        let expected = call.accepted(&next, search.ceiling() as u64);
+        judge.compare_with(Call::Resume(call), expected)?;
+        caller.checkpoint = next;
+    }
+    Ok(())
+}
+
+/// A list of calls from a fresh checkpoint, refused ones among them. It must lead to the
+/// checkpoint of one walk that is never stopped.
+fn session(
+    judge: &mut Judge,
+    random: &mut Random,
+    problem: &Problem,
+    minimum: u8,
+    calls: usize,
+    budgets: impl Fn(&mut Random, u64) -> u64,
+) -> Verdict<Checkpoint> {
+    let mut caller = Caller::start(judge, random, problem, minimum)?;
+    let mut last = Checkpoint::fresh(minimum);
+    let mut granted = 0u64;
+    for _ in 0..calls {
+        let was_finished = last.finished;
+        let budget = budgets(random, last.steps);
+        if random.percent(35) {
+            caller.spoilt_resume(judge, random, budget, last.steps)?;
+        }
+        caller.resume(judge, random, budget)?;
+        granted = granted.saturating_add(budget);
+        if random.percent(35) {
+            caller.read_out(judge, random)?;
+        }
+        last = caller.load(problem)?;
+        if was_finished {
+            break;
+        }
+    }
+    if let Some(incumbent) = &last.incumbent {
+        caller.check_mapping(judge, entries_to_bytes(incumbent))?;
+    }
+    let unbroken = advance(problem, &Checkpoint::fresh(minimum), granted);
+    if last == unbroken {
+        Ok(last)
+    } else {
+        Err(format!(
+            "the calls lead to {last:?}, one walk of {granted} visits to {unbroken:?}"
+        ))
+    }
+}
+
+fn agrees_with_brute_force(problem: &Problem, finished: &Checkpoint) -> Verdict<()> {
+    let largest = brute::largest(problem);
+    let reaches = brute::size(&largest) >= finished.minimum.into();
+    let expected = reaches.then(|| entries_from_bytes(&largest));
+    if finished.incumbent == expected {
+        Ok(())
+    } else {
+        Err(format!("{finished:?}, but brute force finds {expected:?}"))
+    }
+}
+
+/// One who passes a search on as bytes between calls.
+struct Caller {
+    old: Vec<u8>,
+    new: Vec<u8>,
+    checkpoint: Vec<u8>,
+}
+
+impl Caller {
+    fn with(random: &mut Random, problem: &Problem, checkpoint: Vec<u8>) -> Caller {
+        let [old, new] = problem_bytes(random, problem);
+        Caller {
+            old,
+            new,
+            checkpoint,
+        }
+    }
+
+    fn start(
+        judge: &mut Judge,
+        random: &mut Random,
+        problem: &Problem,
+        minimum: u8,
+    ) -> Verdict<Caller> {
+        let mut caller = Caller::with(random, problem, Vec::new());
+        let outcome = judge.compare(Call::Start {
+            old: caller.old.clone(),
+            new: caller.new.clone(),
+            minimum,
+            checkpoint: output(random, CHECKPOINT_BYTES, 0),
+        })?;
+        if let Call::Start { checkpoint, .. } = outcome.memory {
+            caller.checkpoint = written(&outcome.answer, &checkpoint);
+        }
+        Ok(caller)
+    }
+
+    /// The next checkpoint takes the place of this one, unless the call is refused.
+    fn resume(&mut self, judge: &mut Judge, random: &mut Random, budget: u64) -> Verdict<()> {
+        let call = Call::Resume(self.resume_call(random, budget));
+        let outcome = judge.compare(call)?;
+        match outcome.memory {
+            Call::Resume(memory) if outcome.answer.is_accepted() => {
+                self.checkpoint = written(&outcome.answer, &memory.next);
+            }
+            _ => {}
+        }
+        Ok(())
+    }
+
+    /// A call with one thing or more wrong in it. What it answers is compared, and dropped.
+    fn spoilt_resume(
+        &self,
+        judge: &mut Judge,
+        random: &mut Random,
+        budget: u64,
+        steps: u64,
+    ) -> Verdict<()> {
+        let mut call = self.resume_call(random, budget);
+        for _ in 0..random.pick(&[1, 1, 2, 3]) {
+            spoil(random, &mut call, steps);
+        }
+        judge.compare(Call::Resume(call)).map(drop)
+    }
+
+    fn resume_call(&self, random: &mut Random, budget: u64) -> Resume {
+        let spare = random.pick(&[0, 0, 1, 40]);
+        Resume {
+            old: self.old.clone(),
+            new: self.new.clone(),
+            checkpoint: self.checkpoint.clone(),
+            budget,
+            workspace: workspace(random, WORKSPACE_WORDS + spare),
+            next: output(random, CHECKPOINT_BYTES, 0),
+        }
+    }
+
+    fn read_out(&self, judge: &mut Judge, random: &mut Random) -> Verdict<()> {
+        let call = Call::ReadOut {
+            old: self.old.clone(),
+            new: self.new.clone(),
+            checkpoint: self.checkpoint.clone(),
+            mapping: output(random, MAX_VERTICES, 5),
+        };
+        judge.compare(call).map(drop)
+    }
+
+    fn check_mapping(&self, judge: &mut Judge, mapping: Vec<u8>) -> Verdict<()> {
+        let call = Call::CheckMapping {
+            old: self.old.clone(),
+            new: self.new.clone(),
+            mapping,
+        };
+        judge.compare(call).map(drop)
+    }
+
+    fn load(&self, problem: &Problem) -> Verdict<Checkpoint> {
+        Checkpoint::load(problem, &self.checkpoint)
+            .map_err(|refusal| format!("a call left {:?}: {refusal:?}", self.checkpoint))
+    }
+}
+
+fn spoil(random: &mut Random, call: &mut Resume, steps: u64) {
+    match random.within(0..6) {
+        0 => {
+            let words = random.pick(&[0, 1, 100, WORKSPACE_WORDS - 1]);
+            call.workspace = workspace(random, words);
+        }
+        // From a fresh checkpoint this budget overflows nothing: the walk would not end in time.
+        1 if steps > 0 => call.budget = u64::MAX,
+        2 => cases::damage(random, &mut call.checkpoint),
+        3 => {
+            let length = random.within(0..call.checkpoint.len() + 1);
+            call.checkpoint.truncate(length);
+        }
+        4 => damage_graph(random, &mut call.old, &mut call.new),
+        _ => call.next = output(random, CHECKPOINT_BYTES, 100),
+    }
+}
+
+/// A buffer that holds a pattern: of `least` bytes or a few more, or at a chance in percent of
+/// too few.
+fn output(random: &mut Random, least: usize, too_few: usize) -> Buffer<u8> {
+    let length = if random.percent(too_few) {
+        random.pick(&[0, 1, least / 2, least - 1, least - 1])
+    } else {
+        least + random.pick(&[0, 0, 1, 30])
+    };
+    Buffer::filled(random.pick(&[0x55, 0xAA]), length, least)
+}
+
+/// So many words, none of them 0 but by luck.
+fn workspace(random: &mut Random, words: usize) -> Buffer<u64> {
+    Buffer::filled(random.word(), words, WORKSPACE_WORDS)
+}
+
+/// The bytes that an accepted call stored at the front of `buffer`.
+fn written(answer: &Answer, buffer: &Buffer<u8>) -> Vec<u8> {
+    buffer.lent()[..answer.value as usize].to_vec()
+}
+
+fn problem_bytes(random: &mut Random, problem: &Problem) -> [Vec<u8>; 2] {
+    [&problem.old, &problem.new].map(|graph| cases::graph_bytes(random, graph))
+}
+
+fn damage_graph(random: &mut Random, old: &mut Vec<u8>, new: &mut Vec<u8>) {
+    if random.percent(50) {
+        cases::damage(random, old)
+    } else {
+        cases::damage(random, new)
+    }
+}

@@ -1,0 +1,71 @@
+//! A few comparisons of each kind, which the program `compare` makes many of; and the stack.
+
+use std::thread;
+
+use harness::call::{Buffer, Call, Resume, LIBRARY};
+use harness::cases::{graph, Style};
+use harness::random::Random;
+use harness::reference::{Checkpoint, CHECKPOINT_BYTES, MAX_VERTICES, WORKSPACE_WORDS};
+use harness::scenarios::{Judge, KINDS};
+
+#[test]
+fn each_kind_agrees() {
+    for kind in KINDS {
+        let mut judge = Judge::default();
+        for seed in 0..kind.share.min(40) as u64 {
+            if let Err(disagreement) = kind.run(&mut judge, seed) {
+                panic!("{} {seed}: {disagreement}", kind.name);
+            }
+        }
+    }
+}
+
+/// Each function on two graphs of 64 vertices and all edges.
+fn heavy_calls() -> [Call; 5] {
+    let style = Style {
+        vertex_labels: vec![7],
+        edge_labels: vec![1, 2],
+        density: 100,
+    };
+    let bytes = |seed| graph(&mut Random::new(seed), &style, MAX_VERTICES).save();
+    let (old, new) = (bytes(1), bytes(2));
+    let checkpoint = Checkpoint::fresh(0).save();
+    [
+        Call::CheckGraph { graph: old.clone() },
+        Call::CheckMapping {
+            old: old.clone(),
+            new: new.clone(),
+            mapping: vec![255; MAX_VERTICES],
+        },
+        Call::Start {
+            old: old.clone(),
+            new: new.clone(),
+            minimum: 0,
+            checkpoint: Buffer::filled(0, CHECKPOINT_BYTES, CHECKPOINT_BYTES),
+        },
+        Call::ReadOut {
+            old: old.clone(),
+            new: new.clone(),
+            checkpoint: checkpoint.clone(),
+            mapping: Buffer::filled(0, MAX_VERTICES, MAX_VERTICES),
+        },
+        Call::Resume(Resume {
+            old,
+            new,
+            checkpoint,
+            budget: 1_000,
+            workspace: Buffer::filled(1, WORKSPACE_WORDS, WORKSPACE_WORDS),
+            next: Buffer::filled(0, CHECKPOINT_BYTES, CHECKPOINT_BYTES),
+        }),
+    ]
+}
+
+/// A thread has the promised 300 kilobytes, and a little for itself; with more the test crashes.
+#[test]
+fn stack_is_as_promised() {
+    for call in heavy_calls() {
+        let thread = thread::Builder::new().stack_size(320 << 10);
+        let made = thread.spawn(move || call.made_by(&LIBRARY)).unwrap();
+        assert!(made.join().unwrap().answer.is_accepted());
+    }
+}

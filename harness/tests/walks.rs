@@ -1,0 +1,54 @@
+//! The reference against brute force, and the fast walk against the reference.
+
+use harness::brute;
+use harness::cases;
+use harness::fast::Search;
+use harness::random::Random;
+use harness::reference::{advance, ceiling, entries_from_bytes, Checkpoint, Problem};
+
+#[test]
+fn reference_finds_what_brute_force_finds() {
+    for seed in 0..2_000 {
+        let mut random = Random::new(seed);
+        let problem = cases::problem(&mut random, 0..6);
+        let minimum = random.within(0..5) as u8;
+        let last = advance(&problem, &Checkpoint::fresh(minimum), u64::MAX);
+        let largest = brute::largest(&problem);
+        let reaches = brute::size(&largest) >= minimum.into();
+        let expected = reaches.then(|| entries_from_bytes(&largest));
+        assert!(last.finished);
+        assert_eq!(last.incumbent, expected, "seed {seed}");
+    }
+}
+
+/// The fast walk stops where the reference does, wherever it is cut.
+fn walk_alike(seed: u64, random: &mut Random, problem: &Problem, calls: usize, budgets: usize) {
+    let minimum = random.pick(&[0, 0, 1, 3, 6]);
+    let mut fast = Search::start(problem, minimum);
+    let mut plain = Checkpoint::fresh(minimum);
+    for _ in 0..calls {
+        let budget = random.within(0..budgets) as u64;
+        fast.advance(budget);
+        plain = advance(problem, &plain, budget);
+        assert_eq!(fast.checkpoint(), plain, "seed {seed}");
+        assert_eq!(fast.ceiling(), ceiling(problem, &plain), "seed {seed}");
+    }
+}
+
+#[test]
+fn fast_walks_as_the_reference() {
+    for seed in 0..1_500 {
+        let mut random = Random::new(seed);
+        let problem = cases::problem(&mut random, 0..16);
+        walk_alike(seed, &mut random, &problem, 8, 100);
+    }
+}
+
+#[test]
+fn fast_walks_large_graphs_as_the_reference() {
+    for seed in 0..40 {
+        let mut random = Random::new(seed);
+        let problem = cases::problem(&mut random, 40..65);
+        walk_alike(seed, &mut random, &problem, 3, 400);
+    }
+}

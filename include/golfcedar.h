@@ -1,0 +1,80 @@
+/* Golfcedar: the largest common subgraph of two labelled graphs, by a proved search that can be stopped and resumed.
+ *
+ * Link with libc_api.a (`rt staticlib c_api`). Every function here is proved against a definition in crates/c_api/specs/.
+ *
+ * Graphs, mappings and checkpoints are plain bytes; README.md has their forms. The caller owns every buffer: nothing is kept after
+ * a call returns, nothing is allocated. A pointer with a length of 0 may be any non-null pointer. What is written, buffers and number
+ * results alike, must not overlap anything else that is lent to the same call. A call uses at most 300 kilobytes of stack (tested, not proved).
+ *
+ * Every function answers 0 where it accepts, else a refusal's number, and always stores all of its number results (`value`, `earlier`,
+ * `steps`, `size`, `ceiling`): those that a refusal does not give become 0. A refusal changes no other memory that was lent.
+ *
+ *    number  refused because                                                             value
+ *    1       of a graph's bytes: operands are cut off, or the end is missing             place
+ *    2       unknown command                                                             place
+ *    3, 4    a vertex with label 0; a 65th vertex                                        place
+ *    5 to 8  an edge of a vertex not yet given; of a vertex with itself; with label 0;
+ *            given already                                                               place
+ *    9       bytes after the end                                                         place
+ *    13      a buffer for output is too short                                            0
+ *    14      the checkpoint is not in shape for these two graphs                         0
+ *    15      fewer than 4,160 workspace words                                            0
+ *    16      unfinished, and steps + budget above 2^64 - 1                               0
+ *    17      checkpoint bytes not in the form                                            place
+ *    18      a mapping whose length is not the number of old vertices                    0
+ *    19, 21  of a mapping's row: no new vertex; labels differ                            row
+ *    20, 22  against an earlier row: the same new vertex; edges differ                   row (`earlier` has the earlier one)
+ *
+ * A place is the offset of a byte. Where two graphs are given, the old one is read first; if `golfcedar_check_graph` accepts the old one, a
+ * number from 1 to 9 is about the new one.
+ */
+#ifndef GOLFCEDAR_H
+#define GOLFCEDAR_H
+
+#include <stddef.h>
+#include <stdint.h>
+
+#ifdef __cplusplus
+extern "C" {
+#endif
+
+/* No checkpoint has more bytes than this. */
+#define GOLFCEDAR_CHECKPOINT_BYTES 270
+/* A search call needs this many words of 64 bits. */
+#define GOLFCEDAR_WORKSPACE_WORDS 4160
+/* In a mapping: an old vertex that is left out. */
+#define GOLFCEDAR_UNMAPPED 255
+
+/* Is this a graph? Accepted: *value is its number of vertices. Refused: 1 to 9. */
+uint32_t golfcedar_check_graph(const uint8_t *graph, size_t graph_len, uint64_t *value);
+
+/* Is this mapping, one byte for each old vertex, a common subgraph? Accepted: *value is its size, *earlier is 0.
+ * Refused: 1 to 9; 18; 19 to 22. */
+uint32_t golfcedar_check_mapping(const uint8_t *old_graph, size_t old_len, const uint8_t *new_graph, size_t new_len,
+                                 const uint8_t *mapping, size_t mapping_len, uint64_t *value, uint64_t *earlier);
+
+/* A search that has not begun: only mappings of at least `minimum` vertices will be found. Accepted: its checkpoint stands in the first
+ * *value bytes of `checkpoint`, and later bytes are untouched. Refused: 13 if `checkpoint` has fewer than 270 bytes, before all else; 1 to 9. */
+uint32_t golfcedar_start(const uint8_t *old_graph, size_t old_len, const uint8_t *new_graph, size_t new_len, uint8_t minimum,
+                         uint8_t *checkpoint, size_t checkpoint_len, uint64_t *value);
+
+/* Goes on with a search for `budget` visits, fewer only if it finishes. `checkpoint` has exactly the bytes that an earlier call wrote.
+ * Accepted: the next checkpoint stands in the first *value bytes of `next`, later bytes are untouched; every common subgraph has fewer than
+ * *ceiling vertices (if the search began with `golfcedar_start` on the same two graphs); the first 4,160 words of `workspace` are 0, later words
+ * are untouched. Refused: 13 if `next` has fewer than 270 bytes, before all else, so that no visit is lost; 1 to 9; 17; 14; 15; 16. */
+uint32_t golfcedar_resume(const uint8_t *old_graph, size_t old_len, const uint8_t *new_graph, size_t new_len,
+                          const uint8_t *checkpoint, size_t checkpoint_len, uint64_t budget, uint64_t *workspace, size_t workspace_words,
+                          uint8_t *next, size_t next_len, uint64_t *value, uint64_t *ceiling);
+
+/* What a checkpoint says. Accepted: *value is its state (0 unfinished, 1 unfinished with a mapping held, 2 finished, 3 finished with one), *steps the
+ * visits made, *ceiling as `golfcedar_resume` gives it. If a mapping is held, *size is its size, and one byte for each old vertex is stored to `mapping`;
+ * else *size is 0 and `mapping` is untouched. Refused: 13 if `mapping` has fewer than 64 bytes, before all else; 1 to 9; 17; 14. */
+uint32_t golfcedar_read_out(const uint8_t *old_graph, size_t old_len, const uint8_t *new_graph, size_t new_len,
+                            const uint8_t *checkpoint, size_t checkpoint_len, uint8_t *mapping, size_t mapping_len, uint64_t *value,
+                            uint64_t *steps, uint64_t *size, uint64_t *ceiling);
+
+#ifdef __cplusplus
+}
+#endif
+
+#endif
