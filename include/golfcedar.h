@@ -4,7 +4,7 @@
  *
  * Graphs, mappings and checkpoints are plain bytes; README.md has their forms. The caller owns every buffer: nothing is kept after
  * a call returns, nothing is allocated. A pointer with a length of 0 may be any non-null pointer. What is written, buffers and number
- * results alike, must not overlap anything else that is lent to the same call. A call uses at most 300 kilobytes of stack (tested, not proved).
+ * results alike, must not overlap anything else that is lent to the same call. A call uses at most 320 kibibytes of stack (tested, not proved).
  *
  * Every function answers 0 where it accepts, else a refusal's number, and always stores all of its number results (`value`, `earlier`,
  * `steps`, `size`, `ceiling`): those that a refusal does not give become 0. A refusal changes no other memory that was lent.
@@ -25,7 +25,8 @@
  *    19, 21  of a mapping's row: no new vertex; labels differ                            row
  *    20, 22  against an earlier row: the same new vertex; edges differ                   row (`earlier` has the earlier one)
  *
- * A place is the offset of a byte. Where two graphs are given, the old one is read first; if `golfcedar_check_graph` accepts the old one, a
+ * A place is an offset: that of the command at fault, of the first byte that cannot stand there, or the length where the end is missing.
+ * 10, 11 and 12, of lent tables, are never given. Where two graphs are given, the old one is read first; if `golfcedar_check_graph` accepts the old one, a
  * number from 1 to 9 is about the new one.
  */
 #ifndef GOLFCEDAR_H

@@ -1,7 +1,7 @@
 //! The proved search of Golfcedar, through its C interface, against a second implementation.
 //!
-//! `reference` is written from the product's rules alone, documents/01-scope.md (01 in comments
-//! here). It shares neither code nor data layout with the proved search.
+//! `reference` is written from the product's scope document (01 in comments here), its five calls
+//! from include/golfcedar.h. It shares neither code nor data layout with the proved search.
 
 pub mod answer;
 pub mod brute;
