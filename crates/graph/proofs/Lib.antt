@@ -2,6 +2,7 @@ pub mod AllBelow
 pub mod Below
 pub mod Bytes
 pub mod Fuel
+pub mod HalfRows
 pub mod Judge
 pub mod Length
 pub mod MadeReader

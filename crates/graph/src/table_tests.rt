@@ -1,9 +1,10 @@
 // The two tests of a graph's tables, 01's numbers 11 and 12.
 
 ghost use mathlib.Core.Path.{_≡_};
-ghost use Prim.Native.Nat.{_≤_, _<_};
+ghost use Prim.Native.Nat.{_+_, _≤_, _<_};
 ghost use lib.ListN.{length};
-ghost use Rattle.graph.specs.Soundness.{labelSound, labelsSound, edgeSound, rowSound, edgesSound};
+ghost use Rattle.graph.specs.Below.{allBelow};
+ghost use Rattle.graph.specs.Soundness.{labelSound, labelsSound, edgeSound, edgesSound};
 
 // The label of v is not 0 exactly where v is a vertex of the graph.
 pub fn label_sound(order: usize, labels: &[u8], v: usize) -> bool
@@ -51,12 +52,13 @@ pub fn edge_sound(order: usize, edges: &[u8], a: usize, b: usize) -> bool
     b < order
 }
 
+// The edges of a with the vertices up to a: the test of an edge is the same both ways, so that each edge is tested once.
 pub fn row_sound(order: usize, edges: &[u8], a: usize) -> bool
     requires { ⌜ (length (now edges) ≡ 4096) × (a < 64) ⌝ }
-    ensures { λ r. ⌜ r ≡ rowSound order (now (edges .entry)) a ⌝ }
+    ensures { λ r. ⌜ r ≡ allBelow (a + 1) (edgeSound order (now (edges .entry)) a) ⌝ }
 {
     let mut b = 0;
-    while b < 64 {
+    while b <= a {
         if !edge_sound(order, edges, a, b) {
             return false;
         }

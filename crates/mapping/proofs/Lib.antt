@@ -7,4 +7,5 @@ pub mod Pairwise
 pub mod ProblemPasses
 pub mod Removal
 pub mod RowFault
+pub mod RowsAlone
 pub mod Size

@@ -1,6 +1,6 @@
 -- Two graphs pass exactly when both are sound.
 use mathlib.Core.Path.{_≡_, refl}
-use mathlib.Core.Bool.{Bool, true, false, cond, _&&_, true≢false}
+use mathlib.Core.Bool.{Bool, true, false, cond, true≢false}
 use Prim.Native.Nat.{ℕ}
 use lib.ListN.{length}
 use borrow.Author.Tests.{eq-eqb, le-leb}
@@ -8,7 +8,7 @@ use Rattle.graph.specs.Graph.{Graph, Sound}
 use Rattle.graph.specs.Answers.{Answer, passed, accepted, refused, refusedAt}
 use Rattle.graph.specs.Soundness.{tablesFit, labelsSound, edgesSound, soundness}
 use Rattle.graph.proofs.SoundTests.{sound-passes, passes-sound}
-use Rattle.mapping.specs.Problem.{Problem, SoundProblem, firstRefusal, problemAnswer}
+use Rattle.mapping.specs.Problem.{Problem, SoundProblem, firstRefusal, bothFit, problemAnswer}
 
 sound-fits : (g : Graph) → Sound g → tablesFit (g .order) (g .labels) (g .edges) ≡ true
 sound-fits g s =
@@ -40,11 +40,8 @@ both-passed false a b e = absurd (true≢false (cc))
 pub passes-problem : (P : Problem) → problemAnswer P ≡ passed → SoundProblem P
 unfolding problemAnswer
 passes-problem P e =
-    let both = both-passed fit (soundness (P .old)) (soundness (P .new)) e in
+    let both = both-passed (bothFit P) (soundness (P .old)) (soundness (P .new)) e in
     record { old-sound = passes-sound (P .old) (both .0); new-sound = passes-sound (P .new) (both .1) }
-  where
-    fit : Bool
-    fit = tablesFit (P .old .order) (P .old .labels) (P .old .edges) && tablesFit (P .new .order) (P .new .labels) (P .new .edges)
 
 -- no graph is accepted with a number
 soundness-number : (g : Graph) (n : ℕ) → soundness g ≡ accepted n → ⊥
@@ -62,8 +59,7 @@ soundness-number g n e =
 pub problem-number : (P : Problem) (n : ℕ) → problemAnswer P ≡ accepted n → ⊥
 unfolding problemAnswer
 problem-number P n e =
-    go (tablesFit (P .old .order) (P .old .labels) (P .old .edges) && tablesFit (P .new .order) (P .new .labels) (P .new .edges))
-    (soundness (P .old)) (soundness (P .new)) (soundness-number (P .old)) (soundness-number (P .new)) e
+    go (bothFit P) (soundness (P .old)) (soundness (P .new)) (soundness-number (P .old)) (soundness-number (P .new)) e
   where
     go : (t : Bool) (a b : Answer) → ((n : ℕ) → a ≡ accepted n → ⊥) → ((n : ℕ) → b ≡ accepted n → ⊥)
         → cond t (firstRefusal a b) (refused 10) ≡ accepted n → ⊥

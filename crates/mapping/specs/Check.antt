@@ -7,7 +7,7 @@ use Prim.Native.Nat.{ℕ, _<_}
 use lib.Dec.{ltb, eqb}
 use lib.ListN.{length, getD}
 use Rattle.graph.specs.Answers as graph
-use Rattle.mapping.specs.Problem.{Problem, compareVertices, compareEdges, problemAnswer}
+use Rattle.mapping.specs.Problem.{Problem, compareVertices, compareEdges, bothFit, problemAnswer}
 use Rattle.mapping.specs.Common.{unmapped, size}
 use Rattle.mapping.specs.First.{firstBelow}
 use Rattle.mapping.specs.Answers.{Outcome, accepted, refused, refusedRow, refusedRows, mappingOutcome}
@@ -44,6 +44,10 @@ onFault none o = o
 unfoldable pub listOutcome : Problem → List ℕ → Outcome
 listOutcome P l =
     cond (eqb (length l) (P .old .order)) (onFault (firstBelow (length l) (rowFault P l)) (accepted (size l))) (refused 18)
+
+-- the list alone, against tables that fit: 10 comes first, and 11 and 12 are not asked
+unfoldable pub rowsOutcome : Problem → List ℕ → Outcome
+rowsOutcome P l = cond (bothFit P) (listOutcome P l) (refused 10)
 
 abbrev pub onProblem : graph.Answer → Outcome → Outcome
 onProblem graph.passed o = o

@@ -40,9 +40,10 @@ firstRefusal (accepted n) b = accepted n
 firstRefusal (refused n) b = refused n
 firstRefusal (refusedAt n at) b = refusedAt n at
 
+-- 10 for neither graph
+abbrev pub bothFit : Problem → Bool
+bothFit P = tablesFit (P .old .order) (P .old .labels) (P .old .edges) && tablesFit (P .new .order) (P .new .labels) (P .new .edges)
+
 -- 10 for either graph comes first, then 11 and 12 of the old, then 11 and 12 of the new
 unfoldable pub problemAnswer : Problem → Answer
-problemAnswer P =
-    cond (tablesFit (P .old .order) (P .old .labels) (P .old .edges) && tablesFit (P .new .order) (P .new .labels) (P .new .edges))
-    (firstRefusal (soundness (P .old)) (soundness (P .new)))
-    (refused 10)
+problemAnswer P = cond (bothFit P) (firstRefusal (soundness (P .old)) (soundness (P .new))) (refused 10)

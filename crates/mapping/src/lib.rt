@@ -12,14 +12,14 @@ ghost use Rattle.graph.specs.Answers.{soundnessAnswer};
 ghost use Rattle.mapping.specs.Problem.{problem, problemAnswer};
 ghost use Rattle.mapping.specs.Common.{size};
 ghost use Rattle.mapping.specs.Answers.{mappingOutcome};
-ghost use Rattle.mapping.specs.Check.{checkOutcome};
+ghost use Rattle.mapping.specs.Check.{rowsOutcome, checkOutcome};
 
 // An old and a new vertex: a number of one never serves as the other's.
 pub struct OldVertex(pub usize);
 
 pub struct NewVertex(pub usize);
 
-// The answer of `check_mapping`: the mapping's size, or the refusal with its row and, where two rows clash, the earlier row.
+// The answer of `check_rows` and `check_mapping`: the mapping's size, or the refusal with its row and, where two rows clash, the earlier row.
 pub enum MappingAnswer {
     Common(usize),
     Flawed(Flaw),
@@ -57,6 +57,39 @@ pub fn check_problem(
     }
 }
 
+// The check of the mapping alone: a caller that has tested the graphs' soundness already need not test it again.
+pub fn check_rows(
+    old_order: usize,
+    old_labels: &[u8],
+    old_edges: &[u8],
+    new_order: usize,
+    new_labels: &[u8],
+    new_edges: &[u8],
+    mapping: &[u8],
+) -> MappingAnswer
+    ensures { λ r. ⌜ mappingOutcome r ≡ rowsOutcome (problem (graph «old_order» (now («old_labels» .entry)) (now («old_edges» .entry))) (graph «new_order» (now («new_labels» .entry)) (now («new_edges» .entry)))) (now (mapping .entry)) ⌝ }
+{
+    if !graph::tables_fit(old_order, old_labels, old_edges)
+        || !graph::tables_fit(new_order, new_labels, new_edges)
+    {
+        return MappingAnswer::Flawed(Flaw::Tables);
+    }
+    if mapping.len() != old_order {
+        return MappingAnswer::Length;
+    }
+    match rows::first_fault(
+        old_labels,
+        old_edges,
+        new_order,
+        new_labels,
+        new_edges,
+        mapping,
+    ) {
+        Finding::Fault(answer) => answer,
+        Finding::Clear => MappingAnswer::Common(rows::size(mapping)),
+    }
+}
+
 // Whether the mapping is a common subgraph of the two graphs.
 pub fn check_mapping(
     old_order: usize,
@@ -78,21 +111,14 @@ pub fn check_mapping(
         new_edges,
     ) {
         Soundness::Flawed(flaw) => MappingAnswer::Flawed(flaw),
-        Soundness::Sound => {
-            if mapping.len() != old_order {
-                return MappingAnswer::Length;
-            }
-            match rows::first_fault(
-                old_labels,
-                old_edges,
-                new_order,
-                new_labels,
-                new_edges,
-                mapping,
-            ) {
-                Finding::Fault(answer) => answer,
-                Finding::Clear => MappingAnswer::Common(rows::size(mapping)),
-            }
-        }
+        Soundness::Sound => check_rows(
+            old_order,
+            old_labels,
+            old_edges,
+            new_order,
+            new_labels,
+            new_edges,
+            mapping,
+        ),
     }
 }

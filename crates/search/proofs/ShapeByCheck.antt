@@ -16,8 +16,10 @@ use Rattle.mapping.specs.Common.{unmapped}
 use Rattle.mapping.specs.Answers.{accepted, mappingOutcome}
 use Rattle.mapping.specs.declared.MappingAnswer.{MappingAnswer}
 use Rattle.mapping.proofs.MappingAnswer.{the-type}
-use Rattle.mapping.specs.Check.{checkOutcome}
+use Rattle.mapping.specs.Check.{listOutcome, rowsOutcome}
 use Rattle.mapping.proofs.CheckPasses.{passes-common}
+use Rattle.mapping.proofs.ProblemPasses.{problem-passes}
+use Rattle.mapping.proofs.RowsAlone.{rows-alone}
 use Rattle.search_tree.specs.Rules.{rulesOf}
 use Rattle.search_tree.specs.Trees.{Reached}
 use Rattle.search_tree.proofs.ReachedCommon.{reached-common}
@@ -43,6 +45,10 @@ refused-answer (MappingAnswer.LabelsDiffer r) k = refl
 refused-answer (MappingAnswer.EdgesDiffer r e) k = refl
 
 module _ (P : Problem) (sound : SoundProblem P) (c : Checkpoint) where
+  -- between two sound graphs the check of the rows alone is that of a list
+  rows-list : (l : List ℕ) → rowsOutcome P l ≡ listOutcome P l
+  rows-list l = sym (rows-alone P l (problem-passes P sound)) ∙ list-check P sound l
+
   module _ (long : length (c .path) ≡ 64) (deep : c .depth ≤ P .old .order) where
     decided : length (take (c .depth) (c .path)) ≡ c .depth
     decided = length-take-le (c .depth) (c .path) (omega (arith, sound .old-sound .order-max))
@@ -63,25 +69,25 @@ module _ (P : Problem) (sound : SoundProblem P) (c : Checkpoint) where
         )
 
     -- the path fits exactly where it is accepted as a mapping that leaves out each row from the depth on
-    path-checked : allBelow (c .depth) (pathFits P c) ≡ isAccepted (checkOutcome P (take (P .old .order) (filledTo (c .path) (c .depth))))
+    path-checked : allBelow (c .depth) (pathFits P c) ≡ isAccepted (rowsOutcome P (take (P .old .order) (filledTo (c .path) (c .depth))))
     path-checked =
         same-answer _ _ tells-reached (tells-common P sound _)
         (λ r. reached-common P sound _ .0 r .1, λ e. reached-common P sound _ .1 (omega (arith, decided), e))
-        ∙ ap isAccepted (sym (list-check P sound _))
-        ∙ ap (λ (l : List ℕ). isAccepted (checkOutcome P l))
+        ∙ ap isAccepted (sym (rows-list _))
+        ∙ ap (λ (l : List ℕ). isAccepted (rowsOutcome P l))
         (sym (take-filled (P .old .order) (c .path) (c .depth) long deep (sound .old-sound .order-max)))
 
     -- The path fits exactly where the check accepts the entries that it is filled up to.
     pub path-answer : (entries : List ℕ) (a : MappingAnswer) → entries ≡ filledTo (c .path) (c .depth)
-        → mappingOutcome a ≡ checkOutcome P (take (P .old .order) entries) → allBelow (c .depth) (pathFits P c) ≡ isAccepted (mappingOutcome a)
+        → mappingOutcome a ≡ rowsOutcome P (take (P .old .order) entries) → allBelow (c .depth) (pathFits P c) ≡ isAccepted (mappingOutcome a)
     path-answer entries a filled checked = path-checked ∙ rw (checked, filled)
 
   -- Where the check accepts the list held with its size, what is held fits exactly if the minimum is at most that size.
-  pub held-accepted : (n : ℕ) → c .holds ≡ true → checkOutcome P (take (P .old .order) (c .incumbent)) ≡ accepted n
+  pub held-accepted : (n : ℕ) → c .holds ≡ true → rowsOutcome P (take (P .old .order) (c .incumbent)) ≡ accepted n
       → heldFits P c ≡ leb (c .minimum) n
   held-accepted n holds e =
-      simp (holds, sym (list-check P sound _) ∙ e, ← passes-common P _ sound n e .1)
+      simp (holds, sym (rows-list _) ∙ e, ← passes-common P _ sound n (rows-alone P _ (problem-passes P sound) ∙ e) .1)
 
   -- Where the check refuses the list held, what is held does not fit.
-  pub held-refused : c .holds ≡ true → isAccepted (checkOutcome P (take (P .old .order) (c .incumbent))) ≡ false → heldFits P c ≡ false
-  held-refused holds e = simp (holds, ap isAccepted (sym (list-check P sound _)) ∙ e)
+  pub held-refused : c .holds ≡ true → isAccepted (rowsOutcome P (take (P .old .order) (c .incumbent))) ≡ false → heldFits P c ≡ false
+  held-refused holds e = simp (holds, ap isAccepted (sym (rows-list _)) ∙ e)

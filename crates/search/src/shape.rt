@@ -72,7 +72,7 @@ pub fn path_fits(
     let depth = checkpoint.depth;
     let path = checkpoint.path;
     let entries = filled(&path, depth);
-    match mapping::check_mapping(
+    match mapping::check_rows(
         old_order,
         old_labels,
         old_edges,
@@ -106,7 +106,7 @@ pub fn held_fits(
     }
     let minimum = checkpoint.minimum as usize;
     let incumbent = checkpoint.incumbent;
-    match mapping::check_mapping(
+    match mapping::check_rows(
         old_order,
         old_labels,
         old_edges,

@@ -3,17 +3,18 @@
 use borrow.Author.Needs.{needs}
 use borrow.Author.Tests.{not-true, not-false}
 use mathlib.Core.Path.{sym, _∙_}
-use Prim.Native.Nat.{_-_}
-use Rattle.graph.specs.Soundness.{edgeSound, rowSound}
+use Prim.Native.Nat.{_+_, _-_}
+use native.Mathlib.Omega.{arith}
+use Rattle.graph.specs.Soundness.{edgeSound}
 use Rattle.graph.proofs.AllBelow.{PassedTo, passed-none, passed-more, passed-all, false-allBelow}
 use Rattle.graph.proofs.table_tests.row_sound.Statement.{statement}
 use Rattle.graph.proofs.table_tests.row_sound.Tie as tie
 
 abbrev Inv-loop : tie.InvT-loop
-Inv-loop order edges a b₀ b = PassedTo 64 (edgeSound order edges a) b
+Inv-loop order edges a b₀ b = PassedTo (a + 1) (edgeSound order edges a) b
 
 abbrev μ-loop : tie.MeasureT-loop
-μ-loop order edges a b₀ b = 64 - b
+μ-loop order edges a b₀ b = a + 1 - b
 
 loop-holds : tie.Need-loop-holds Inv-loop μ-loop
 loop-holds c = passed-none _ _
@@ -22,10 +23,9 @@ edge-sound-requires : tie.Need-edge-sound-requires Inv-loop μ-loop
 edge-sound-requires c κs = search needs
 
 returns : tie.Need-returns Inv-loop μ-loop
-unfolding rowSound
 returns c =
     let r = c .before in
-    sym (false-allBelow 64 _ _ (r .before .loop-test .taken) (sym (r .edge-sound .ensures) ∙ not-true _ (c .if1 .taken)))
+    sym (false-allBelow _ _ _ (omega arith) (sym (r .edge-sound .ensures) ∙ not-true _ (c .if1 .taken)))
 
 add-b : tie.Need-add-b Inv-loop μ-loop
 add-b c = search needs
@@ -36,11 +36,10 @@ loop-less c = search needs
 loop-again : tie.Need-loop-again Inv-loop μ-loop
 loop-again c =
     let r = c .before in
-    passed-more _ _ _ (r .before .loop-test .taken) (r .before .before .loop .inv) (sym (r .edge-sound .ensures) ∙ not-false _ (c .if1 .left))
+    passed-more _ _ _ (omega arith) (r .before .before .loop .inv) (sym (r .edge-sound .ensures) ∙ not-false _ (c .if1 .left))
 
 returns-2 : tie.Need-returns-2 Inv-loop μ-loop
-unfolding rowSound
-returns-2 c = sym (passed-all 64 _ _ (c .loop-test .left) (c .before .loop .inv))
+returns-2 c = sym (passed-all _ _ _ (omega arith) (c .before .loop .inv))
 
 pub row-sound-spec : {M : Type 1} → statement M
 row-sound-spec = tie.close (tie.spec Inv-loop μ-loop loop-holds edge-sound-requires returns add-b loop-less loop-again returns-2)

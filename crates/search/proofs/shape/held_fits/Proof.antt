@@ -22,13 +22,13 @@ cast-minimum c = search needs
 array-share-prefix-incumbent : tie.Need-array-share-prefix-incumbent
 array-share-prefix-incumbent c = search needs
 
-slice-aggregate-check-mapping : tie.Need-slice-aggregate-check-mapping
-slice-aggregate-check-mapping c =
+slice-aggregate-check-rows : tie.Need-slice-aggregate-check-rows
+slice-aggregate-check-rows c =
     let start = c .before .before .before .before .before .before .before .before in
     sym (length-take-le _ _ (omega (arith, start .pre .0 .old-sound .order-max, start .pre .1)))
 
-check-mapping-requires : tie.Need-check-mapping-requires
-check-mapping-requires c κs = search needs
+check-rows-requires : tie.Need-check-rows-requires
+check-rows-requires c κs = search needs
 
 enum-known-size : tie.Need-enum-known-size
 enum-known-size c = search needs
@@ -40,7 +40,7 @@ returns-2 c =
     let start = held .before .before .before .before .before in
     let k = start .args .checkpoint in
     sym (held-accepted _ (start .pre .0) k _ (not-false (k .holds) (held .if1 .left))
-    (sym (call .check-mapping .ensures) ∙ ap mappingOutcome (c .before .size .given .1)))
+    (sym (call .check-rows .ensures) ∙ ap mappingOutcome (c .before .size .given .1)))
 
 returns-3 : tie.Need-returns-3
 returns-3 c =
@@ -49,7 +49,7 @@ returns-3 c =
     let start = held .before .before .before .before .before in
     let k = start .args .checkpoint in
     sym (held-refused _ (start .pre .0) k (not-false (k .holds) (held .if1 .left))
-    (ap isAccepted (sym (call .check-mapping .ensures)) ∙ refused-answer (call .check-mapping .result) (c .match .keys2)))
+    (ap isAccepted (sym (call .check-rows .ensures)) ∙ refused-answer (call .check-rows .result) (c .match .keys2)))
 
 pub held-fits-spec : {M : Type 1} → statement M
 held-fits-spec =
@@ -58,8 +58,8 @@ held-fits-spec =
     returns
     cast-minimum
     array-share-prefix-incumbent
-    slice-aggregate-check-mapping
-    check-mapping-requires
+    slice-aggregate-check-rows
+    check-rows-requires
     enum-known-size
     returns-2
     returns-3)

@@ -19,16 +19,16 @@ filled-requires c κs = search needs
 array-share-prefix-entries : tie.Need-array-share-prefix-entries
 array-share-prefix-entries c = search needs
 
-slice-aggregate-check-mapping : tie.Need-slice-aggregate-check-mapping
-slice-aggregate-check-mapping c =
+slice-aggregate-check-rows : tie.Need-slice-aggregate-check-rows
+slice-aggregate-check-rows c =
     let start = c .before .before .before .before .before .before .before .before in
     let k = start .args .checkpoint in
     let small = start .pre .0 .old-sound .order-max in
     let long = filled-length (k .path) (k .depth) (start .pre .1 .1) (omega arith) in
     sym (length-take-le _ _ (omega (arith, ap length (c .before .filled .ensures), long, small)))
 
-check-mapping-requires : tie.Need-check-mapping-requires
-check-mapping-requires c κs = search needs
+check-rows-requires : tie.Need-check-rows-requires
+check-rows-requires c κs = search needs
 
 enum-told : tie.Need-enum-told
 enum-told c = search needs
@@ -39,8 +39,8 @@ returns c =
     let fill = call .before .before in
     let start = fill .before .before .before .before .before .before .before in
     let k = start .args .checkpoint in
-    let answer = call .check-mapping .result in
-    sym (path-answer _ (start .pre .0) k (start .pre .1 .1) (start .pre .1 .0) _ answer (fill .filled .ensures) (call .check-mapping .ensures)
+    let answer = call .check-rows .result in
+    sym (path-answer _ (start .pre .0) k (start .pre .1 .1) (start .pre .1 .0) _ answer (fill .filled .ensures) (call .check-rows .ensures)
     ∙ ap (λ (a : MappingAnswer). isAccepted (mappingOutcome a)) (c .enum-told .given .1))
 
 returns-2 : tie.Need-returns-2
@@ -49,8 +49,8 @@ returns-2 c =
     let fill = call .before .before in
     let start = fill .before .before .before .before .before .before .before in
     let k = start .args .checkpoint in
-    let answer = call .check-mapping .result in
-    sym (path-answer _ (start .pre .0) k (start .pre .1 .1) (start .pre .1 .0) _ answer (fill .filled .ensures) (call .check-mapping .ensures)
+    let answer = call .check-rows .result in
+    sym (path-answer _ (start .pre .0) k (start .pre .1 .1) (start .pre .1 .0) _ answer (fill .filled .ensures) (call .check-rows .ensures)
     ∙ refused-answer answer (c .match .keys2))
 
 pub path-fits-spec : {M : Type 1} → statement M
@@ -59,8 +59,8 @@ path-fits-spec =
     (tie.spec
     filled-requires
     array-share-prefix-entries
-    slice-aggregate-check-mapping
-    check-mapping-requires
+    slice-aggregate-check-rows
+    check-rows-requires
     enum-told
     returns
     returns-2)
