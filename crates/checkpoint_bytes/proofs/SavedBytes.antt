@@ -71,8 +71,8 @@ module _ (n : ℕ) (c : Checkpoint) where
       (length-little 8 (c .steps))
       ∙ ap₂ (λ (p h : ℕ). 14 + 2 * p + 2 * h) (length-values (c .depth) _) (length-values (cond (c .holds) n 0) _)
 
--- at most n entries of a mapping
-held-few : (n : ℕ) (holds : Bool) → cond holds n 0 ≤ n
+-- A mapping has at most n entries.
+pub held-few : (n : ℕ) (holds : Bool) → cond holds n 0 ≤ n
 held-few n true = omega arith
 held-few n false = omega arith
 

@@ -46,7 +46,7 @@ writingOf r buffer = record { answer = writeAnswer r; buffer = buffer }
 abbrev pub overwrite : List ℕ → List ℕ → List ℕ
 overwrite bytes buffer = bytes ++ drop (length bytes) buffer
 
--- a sound graph's bytes, where the buffer has room
+-- these bytes at the front of the buffer, where it has room; else 13, "too short"
 abbrev pub fill : List ℕ → List ℕ → Writing
 fill bytes buffer =
     cond (leb (length bytes) (length buffer))

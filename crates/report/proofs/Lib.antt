@@ -4,6 +4,8 @@ pub mod PutRuns
 pub mod PutTexts
 pub mod ReportCases
 pub mod TextLengths
+pub mod RefusalNumbers
+pub mod RefitLength
 pub mod FilledBuffer
 pub mod GraphRead
 pub mod ProgramExample
