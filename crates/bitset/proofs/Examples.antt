@@ -3,9 +3,9 @@ use mathlib.Core.Path.{_≡_, refl}
 use mathlib.Core.Bool.{true, false, _||_}
 use Prim.Native.Nat.{ℕ}
 use lib.Dec.{eqb}
-use Rattle.bitset.specs.Members.{member, setOf, meetOf, insert}
+use Rattle.bitset.specs.Members.{member, setOf, meetOf, insert, membersFrom}
 use Rattle.bitset.specs.Count.{countBelow, size}
-use Rattle.bitset.specs.Least.{leastBelow, leastMember, leastAbove}
+use Rattle.bitset.specs.Least.{leastBelow, leastMember, leastAbove, withoutLeast}
 use Rattle.bitset.specs.declared.Least.the-variants.{Member, Empty}
 
 abbrev word : ℕ
@@ -58,3 +58,27 @@ added = refl
 too-large : insert word 64 ≡ word
 unfolding setOf member
 too-large = refl
+
+from-three : membersFrom word 3 ≡ 0x8000_0000_0000_0008
+unfolding setOf member
+from-three = refl
+
+from-last : membersFrom word 63 ≡ 0x8000_0000_0000_0000
+unfolding setOf member
+from-last = refl
+
+from-above : membersFrom word 64 ≡ 0
+unfolding setOf member
+from-above = refl
+
+without-zero : withoutLeast word ≡ 0x8000_0000_0000_000a
+unfolding setOf leastBelow member
+without-zero = refl
+
+without-only : withoutLeast 0x8000_0000_0000_0000 ≡ 0
+unfolding setOf leastBelow member
+without-only = refl
+
+without-none : withoutLeast 0 ≡ 0
+unfolding leastBelow member
+without-none = refl

@@ -4,4 +4,6 @@ pub mod CountBelow
 pub mod Ones
 pub mod LeastBelow
 pub mod TrailingZeros
+pub mod MembersFrom
+pub mod WithoutLeast
 pub mod Examples

@@ -1,9 +1,9 @@
--- The least number that passes a test, and the least member of a set.
+-- The least number that passes a test, the least member of a set, and the set without it.
 use mathlib.Core.Path.{_≡_}
-use mathlib.Core.Bool.{Bool, true, false, cond, _&&_}
+use mathlib.Core.Bool.{Bool, true, false, cond, _&&_, not}
 use Prim.Native.Nat.{ℕ, zero, suc, _<_}
-use lib.Dec.{ltb}
-use Rattle.bitset.specs.Members.{member}
+use lib.Dec.{ltb, eqb}
+use Rattle.bitset.specs.Members.{member, setOf}
 use Rattle.bitset.specs.declared.Least.{Least}
 use Rattle.bitset.specs.declared.Least.the-variants.{Member, Empty}
 
@@ -24,6 +24,15 @@ leastMember s = leastBelow 64 (member s)
 -- the least member of s that is greater than i, and below 64
 abbrev pub leastAbove : ℕ → ℕ → Least
 leastAbove s i = leastBelow 64 (λ j. ltb i j && member s j)
+
+-- the set without the member found
+abbrev pub dropFound : ℕ → Least → ℕ
+dropFound s (Member m) = setOf 64 (λ j. not (eqb j m) && member s j)
+dropFound s Empty = 0
+
+-- the numbers below 64 that are members of s, but not its least
+abbrev pub withoutLeast : ℕ → ℕ
+withoutLeast s = dropFound s (leastMember s)
 
 -- m is the least of the numbers below k that pass the test
 pub record IsLeast (k : ℕ) (test : ℕ → Bool) (m : ℕ) : Type 0 where

@@ -1,7 +1,7 @@
 -- A set of numbers as one number: i is a member where binary digit i is set.
 use mathlib.Core.Bool.{Bool, cond, _&&_, _||_}
 use Prim.Native.Nat.{ℕ, zero, suc, _+_, _/_, _%_, _^_}
-use lib.Dec.{eqb}
+use lib.Dec.{eqb, leb}
 
 -- i is a member of s
 unfoldable pub member : ℕ → ℕ → Bool
@@ -19,3 +19,7 @@ meetOf a b = setOf 64 (λ i. member a i && member b i)
 -- the numbers below 64 that are i or members of s
 abbrev pub insert : ℕ → ℕ → ℕ
 insert s i = setOf 64 (λ j. eqb j i || member s j)
+
+-- the numbers below 64 that are members of s and at least i
+abbrev pub membersFrom : ℕ → ℕ → ℕ
+membersFrom s i = setOf 64 (λ j. leb i j && member s j)

@@ -2,9 +2,9 @@
 
 ghost use mathlib.Core.Path.{_≡_};
 ghost use lib.Dec.{eqb};
-ghost use Rattle.bitset.specs.Members.{member, meetOf, insert};
+ghost use Rattle.bitset.specs.Members.{member, meetOf, insert, membersFrom};
 ghost use Rattle.bitset.specs.Count.{size};
-ghost use Rattle.bitset.specs.Least.{leastMember, leastAbove};
+ghost use Rattle.bitset.specs.Least.{leastMember, leastAbove, withoutLeast};
 
 pub enum Least {
     Member(usize),
@@ -71,4 +71,18 @@ pub fn with(s: u64, i: usize) -> u64
     ensures { λ r. ⌜ r ≡ insert s i ⌝ }
 {
     if i < 64 { s | (1 << i) } else { s }
+}
+
+// The members from `i` on; none for an `i` that no set holds.
+pub fn members_from(s: u64, i: usize) -> u64
+    ensures { λ r. ⌜ r ≡ membersFrom s i ⌝ }
+{
+    if i < 64 { (s >> i) << i } else { 0 }
+}
+
+// The set without its least member; `s - 1` lacks that digit, and agrees with `s` above it.
+pub fn without_least(s: u64) -> u64
+    ensures { λ r. ⌜ r ≡ withoutLeast s ⌝ }
+{
+    if s == 0 { 0 } else { s & (s - 1) }
 }

@@ -18,7 +18,7 @@ use Rattle.mapping.proofs.Size.{counted, counted-mapped}
 use Rattle.search_tree.specs.Rules.{rulesOf}
 use Rattle.search_tree.specs.Node.{extend, children}
 use Rattle.search_tree.proofs.Children.{Choice}
-use Rattle.search.specs.Words.{Words}
+use Rattle.search.specs.Words.{levelWord, Words}
 use Rattle.search.specs.Walking.{AtNode, Descends}
 use Rattle.search.proofs.WordLevels.{words-same}
 use Rattle.search.proofs.WordChoices.{first-taken, only-left-out}
@@ -47,7 +47,7 @@ module _ {P : Problem} (sound : SoundProblem P) {path ws : List ℕ} {depth pair
       }
 
   -- The least member of the row's word is stored: the first child takes it.
-  pub child-taken : {v : ℕ} → leastMember (getD ws (64 * pairs + depth) 0) ≡ Member v
+  pub child-taken : {v : ℕ} → leastMember (levelWord ws pairs depth) ≡ Member v
       → Descends P path depth ws (record { depth = depth + 1; pairs = pairs + 1; finished = false }) (set path depth (v % 256))
   child-taken {v} e =
       let small = leastBelow-Member 64 _ e .below in
@@ -57,7 +57,7 @@ module _ {P : Problem} (sound : SoundProblem P) {path ws : List ℕ} {depth pair
       rw stored (descends (inr (first .isCandidate)) (omega arith) (first .children-are))
 
   -- The row's word is empty: the first child leaves the row out.
-  pub child-left-out : leastMember (getD ws (64 * pairs + depth) 0) ≡ Empty
+  pub child-left-out : leastMember (levelWord ws pairs depth) ≡ Empty
       → Descends P path depth ws (record { depth = depth + 1; pairs = pairs; finished = false }) (set path depth unmapped)
   child-left-out e =
       let first = only-left-out P sound (omega (arith, own-length)) own-words (rw (own-length, ← node .pairs-are) e) in

@@ -13,11 +13,12 @@ use Rattle.search_tree.specs.Rules.{rulesOf}
 use Rattle.search_tree.specs.Node.{upperBound, laterSiblings}
 use Rattle.search_tree.specs.Ceiling.{topBound}
 use Rattle.search_tree.proofs.OpenNodes.{laterSiblings-append}
-use Rattle.search.specs.Words.{Words, openRows}
+use Rattle.search.specs.Words.{SameLevels, openRows, Words}
 use Rattle.search.specs.Walking.{Setting, AtNode, InBounds}
-use Rattle.search.proofs.NodeWords.{size-mapped}
+use Rattle.search.proofs.NodeWords.{size-mapped, size-take-max}
 use Rattle.search.proofs.RowTop.{levelTop}
-use Rattle.search.proofs.WordLevels.{words-shorter, size-left-out}
+use Rattle.search.proofs.Levels.{same-none, same-more, openRows-same}
+use Rattle.search.proofs.WordLevels.{words-shorter, size-left-out, words-kept}
 use Rattle.search.proofs.WordBounds.{prefix-bound}
 use Rattle.search.proofs.WordCeiling.{topBound-level, topBound-skip, topBound-same, topBound-root}
 
@@ -25,10 +26,11 @@ use Rattle.search.proofs.WordCeiling.{topBound-level, topBound-skip, to
 abbrev pub laterTop : Problem → List ℕ → ℕ → ℕ
 laterTop P path k = topBound (rulesOf P) (laterSiblings (rulesOf P) path k)
 
--- The invariant: the greatest so far and the levels up to k make up all levels.
-pub record LevelsHead (n : ℕ) (edges masks path ws : List ℕ) (depth pairs least k left top : ℕ) : Type 0 where
+-- The invariant: the greatest so far and the levels up to k make up all levels, and these are unchanged.
+pub record LevelsHead (n : ℕ) (edges masks path ws ws′ : List ℕ) (depth pairs least k left top : ℕ) : Type 0 where
   pub k-max : k ≤ depth
   pub left-is : left ≡ size (take k path)
+  pub kept : SameLevels left ws ws′
   pub tops : (P : Problem) → Setting P n edges masks → AtNode P path depth pairs ws → max least (laterTop P path depth) ≡ max top (laterTop P path k)
 
 module _ {n : ℕ} {edges masks path ws : List ℕ} {depth pairs : ℕ} (bounds : InBounds n edges masks path depth pairs ws) where
@@ -50,21 +52,22 @@ module _ {n : ℕ} {edges masks path ws : List ℕ} {depth pairs : ℕ} (bounds 
   }
 
   -- Before the first level, all are left.
-  pub levels-first : (least : ℕ) → LevelsHead n edges masks path ws depth pairs least depth pairs least
-  levels-first least = record { k-max = le-refl depth; left-is = bounds .pairs-are; tops = λ P setting node. omega arith }
+  pub levels-first : (least : ℕ) → LevelsHead n edges masks path ws ws depth pairs least depth pairs least
+  levels-first least = record { k-max = le-refl depth; left-is = bounds .pairs-are; kept = same-none pairs ws; tops = λ P setting node. omega arith }
 
-  module _ {least k left top : ℕ} (row : ℕ) (next : k ≡ row + 1) (before : LevelsHead n edges masks path ws depth pairs least k left top) where
-    head : LevelsHead n edges masks path ws depth pairs least (row + 1) left top
+  module _ {ws′ : List ℕ} {least k left top : ℕ} (row : ℕ) (next : k ≡ row + 1) (before : LevelsHead n edges masks path ws ws′ depth pairs least k left top) where
+    head : LevelsHead n edges masks path ws ws′ depth pairs least (row + 1) left top
     head = rw next at before
 
     row-inside : row < length path
     row-inside = omega (arith, inside, head .k-max)
 
     -- A level that leaves its row out adds nothing.
-    pub level-left-out : getD path row 0 ≡ unmapped → LevelsHead n edges masks path ws depth pairs least row left top
+    pub level-left-out : getD path row 0 ≡ unmapped → LevelsHead n edges masks path ws ws′ depth pairs least row left top
     level-left-out e = record {
       k-max = omega (arith, head .k-max);
       left-is = head .left-is ∙ size-left-out path row e;
+      kept = head .kept;
       tops = λ P setting node. omega (arith, head .tops P setting node, topBound-same P (setting .sound) path row e);
     }
 
@@ -73,38 +76,48 @@ module _ {n : ℕ} {edges masks path ws : List ℕ} {depth pairs : ℕ} (bounds 
       pub level-pairs : left ≡ size (take row path) + 1
       level-pairs = head .left-is ∙ size-mapped path row row-inside mapped
 
+      left-before : left - 1 ≡ size (take row path)
+      left-before = omega (arith, level-pairs)
+
       -- the words of the level's node
       level-words : {P : Problem} → AtNode P path depth pairs ws → Words P path row ws
       level-words node = words-shorter (omega (arith, head .k-max)) (node .words)
 
+      lower : SameLevels (left - 1) ws ws′
+      lower = same-more (head .kept) (left - 1) (omega arith) (same-none (left - 1) ws′)
+
       -- A level counts its later siblings,
-      pub level-counted : {above top′ : ℕ}
-          → ((P : Problem) → Setting P n edges masks → Words P path row ws → above ≡ levelTop (rulesOf P) (take row path) (getD path row 0))
-          → top′ ≡ max top above → LevelsHead n edges masks path ws depth pairs least row (left - 1) top′
-      level-counted {above} {top′} counts e = record {
+      pub level-counted : {ws″ : List ℕ} {above top′ : ℕ} → SameLevels (left - 1) ws′ ws″
+          → ((P : Problem) → Setting P n edges masks → Words P path row ws′ → above ≡ levelTop (rulesOf P) (take row path) (getD path row 0))
+          → top′ ≡ max top above → LevelsHead n edges masks path ws ws″ depth pairs least row (left - 1) top′
+      level-counted {ws″} {above} {top′} same counts e = record {
         k-max = omega (arith, head .k-max);
-        left-is = omega (arith, level-pairs);
+        left-is = left-before;
+        kept = same-more (head .kept) (left - 1) (omega arith) same;
         tops = λ P setting node.
-            omega (arith, head .tops P setting node, topBound-level (rulesOf P) path row, counts P setting (level-words node));
+            let words = words-kept P (setting .sound) (omega (arith, left-before)) lower (level-words node) in
+            omega (arith, head .tops P setting node, topBound-level (rulesOf P) path row, counts P setting words);
       }
 
       -- and is passed over where its node's bound is not above the maximum so far.
-      pub level-skipped : left - 1 + 1 + openRows n row (left - 1) ws ≤ top → LevelsHead n edges masks path ws depth pairs least row (left - 1) top
+      pub level-skipped : left - 1 + 1 + openRows row (left - 1) ws′ ≤ top → LevelsHead n edges masks path ws ws′ depth pairs least row (left - 1) top
       level-skipped h = record {
         k-max = omega (arith, head .k-max);
-        left-is = omega (arith, level-pairs);
+        left-is = left-before;
+        kept = lower;
         tops = λ P setting node.
-            let left-is : left - 1 ≡ size (take row path) = omega (arith, level-pairs) in
-            let is : upperBound (rulesOf P) (take row path) ≡ left - 1 + openRows n row (left - 1) ws =
-            rw (left-is, ← setting .order-is) (prefix-bound P (setting .sound) (omega (arith, row-inside)) (level-words node)) in
             let row-is : row < P .old .order = omega (arith, setting .order-is, head .k-max, bounds .depth-max) in
+            let few : size (take row path) < 64 = omega (arith, row-is, setting .sound .old-sound .order-max, size-take-max path row) in
+            let is : upperBound (rulesOf P) (take row path) ≡ left - 1 + openRows row (left - 1) ws =
+            rw left-before (prefix-bound P (setting .sound) (omega (arith, row-inside)) (level-words node) few) in
+            let same = openRows-same lower row (left - 1) (le-refl (left - 1)) in
             omega (arith, head .tops P setting node, topBound-skip (rulesOf P) path row top (omega (arith, row-inside)) row-is (omega arith));
       }
 
   -- At the root the maximum is that of all levels.
-  pub levels-all : {least k left top : ℕ} → k ≡ 0 → LevelsHead n edges masks path ws depth pairs least k left top
+  pub levels-all : {ws′ : List ℕ} {least k left top : ℕ} → k ≡ 0 → LevelsHead n edges masks path ws ws′ depth pairs least k left top
       → (P : Problem) → Setting P n edges masks → AtNode P path depth pairs ws → top ≡ max least (laterTop P (take depth path) depth)
-  levels-all {least} {k} {left} {top} e head P setting node =
+  levels-all {ws′} {least} {k} {left} {top} e head P setting node =
       let R = rulesOf P in
       let same = laterSiblings-append R (take depth path) (drop depth path) depth (omega (arith, length-take-le depth path inside)) in
       let whole = ap (λ (l : List ℕ). laterSiblings R l depth) (take-append-drop depth path) in

@@ -20,7 +20,7 @@ use Rattle.search_tree.proofs.Candidates.{candidate-value}
 use Rattle.search_tree.proofs.Children.{Choice}
 use Rattle.search_tree.proofs.OpenNodes.{laterSiblings-append}
 use Rattle.search_tree.proofs.Reached.{reached-root, reached-take}
-use Rattle.search.specs.Words.{Words}
+use Rattle.search.specs.Words.{levelWord, Words}
 use Rattle.search.specs.Walking.{AtNode, Retreats}
 use Rattle.search.proofs.WordLevels.{size-left-out, words-shorter}
 use Rattle.search.proofs.WordChoices.{next-taken, siblings-taken, siblings-last, siblings-left-out, siblings-root}
@@ -111,12 +111,12 @@ module _ {P : Problem} (sound : SoundProblem P) {path ws : List ℕ} {depth pair
         }
 
     -- The least member above the row's value is stored: the sibling takes it.
-    pub sibling-taken : {v : ℕ} → leastAbove (getD ws (64 * (pairs - 1) + row) 0) (getD path row 0) ≡ Member v
+    pub sibling-taken : {v : ℕ} → leastAbove (levelWord ws (pairs - 1) row) (getD path row 0) ≡ Member v
         → Retreats P path depth ws (record { depth = k; pairs = pairs; finished = false }) (set path row (v % 256))
     sibling-taken {v} e =
         let before = pairs-before passed top row-inside mapped in
         let level : pairs - 1 ≡ size (take row path) = omega arith in
-        let found : leastAbove (getD ws (64 * size (take row path) + row) 0) (getD path row 0) ≡ Member v = rw level at e in
+        let found : leastAbove (levelWord ws (size (take row path)) row) (getD path row 0) ≡ Member v = rw level at e in
         let small = leastAbove-Member _ _ e .below in
         let stored : v % 256 ≡ v = omega arith in
         let one = counted-mapped v (λ u. omega arith) in
@@ -125,10 +125,10 @@ module _ {P : Problem} (sound : SoundProblem P) {path ws : List ℕ} {depth pair
         (siblings-taken P sound (omega (arith, row-inside)) row-inner row-words found))
 
     -- No member is above the row's value: the sibling leaves the row out.
-    pub sibling-left-out : leastAbove (getD ws (64 * (pairs - 1) + row) 0) (getD path row 0) ≡ Empty
+    pub sibling-left-out : leastAbove (levelWord ws (pairs - 1) row) (getD path row 0) ≡ Empty
         → Retreats P path depth ws (record { depth = k; pairs = pairs - 1; finished = false }) (set path row unmapped)
     sibling-left-out e =
         let before = pairs-before passed top row-inside mapped in
         let level : pairs - 1 ≡ size (take row path) = omega arith in
-        let found : leastAbove (getD ws (64 * size (take row path) + row) 0) (getD path row 0) ≡ Empty = rw level at e in
+        let found : leastAbove (levelWord ws (size (take row path)) row) (getD path row 0) ≡ Empty = rw level at e in
         retreats (inl refl) (omega arith) (siblings-last P sound (omega (arith, row-inside)) row-inner row-words row-value found)

@@ -1,35 +1,33 @@
 -- The words of a node from those of its parent, and the node's upper bound: what the code adds to the workspace as it goes down a path.
 use mathlib.Core.Path.{_≡_, refl, sym, ap, _∙_}
 use mathlib.Core.Logic.{⊎-elim}
-use mathlib.Core.Bool.{Bool, true, false, cond, not, _&&_}
+use mathlib.Core.Bool.{not, _&&_}
 use mathlib.Core.List.{List}
 use Prim.Native.Nat.{ℕ, _+_, _-_, _*_, _≤_, _<_}
-use native.Mathlib.Nat.{one-mul}
 use native.Mathlib.Omega.{arith}
-use lib.Dec.{leb, eqb}
+use lib.Dec.{leb, ltb, eqb}
 use lib.ListN.{length, getD, take, length-take}
 use lib.Seq.{length-take-le, getD-take}
-use Rattle.graph.proofs.Below.{sumBelow-le, sumBelow-same}
+use Rattle.bitset.specs.Members.{member}
+use Rattle.bitset.proofs.CountBelow.{countBelow-le}
 use Rattle.mapping.specs.Problem.{Problem}
 use Rattle.mapping.specs.Common.{unmapped, size}
 use Rattle.mapping.proofs.Size.{size-max, counted-mapped}
 use Rattle.search_tree.specs.Rules.{rulesOf}
-use Rattle.search_tree.specs.Node.{upperBound}
+use Rattle.search_tree.specs.Node.{upperBound, extend}
 use Rattle.search_tree.specs.Trees.{Reached}
 use Rattle.search_tree.proofs.Candidates.{candidate-value}
-use Rattle.search.specs.Words.{Refined, Words, openRows}
+use Rattle.search.specs.Words.{openSet, metWord, Refined, openRows, meetRows, Words}
 use Rattle.search.specs.Walking.{Setting, AtNode, InBounds}
-use Rattle.search.proofs.WordLevels.{size-extend, take-extend, words-shorter, words-left-out, words-refined}
-use Rattle.search.proofs.WordBounds.{prefix-bound}
+use Rattle.search.proofs.WordLevels.{size-extend, size-left-out, take-extend, words-shorter, words-left-out, words-refined}
+use Rattle.search.proofs.WordBounds.{prefix-bound, taken-bound}
 
--- No more rows are open than there are.
-pub openRows-max : (n depth pairs : ℕ) (ws : List ℕ) → openRows n depth pairs ws ≤ n
-openRows-max n depth pairs ws =
-    omega (arith, sumBelow-le n _ (λ k. 1) (λ k h. bit (leb depth k && not (eqb (getD ws (64 * pairs + k) 0) 0))), sumBelow-same n 1, one-mul n)
-  where
-    bit : (b : Bool) → cond b 1 0 ≤ 1
-    bit true = omega arith
-    bit false = omega arith
+-- No more rows are counted than a set can hold.
+pub openRows-max : (depth pairs : ℕ) (ws : List ℕ) → openRows depth pairs ws ≤ 64
+openRows-max depth pairs ws = countBelow-le 64 (λ r. leb depth r && member (openSet pairs ws) r)
+
+pub meetRows-max : (edges masks : List ℕ) (row pairs value : ℕ) (ws : List ℕ) → meetRows edges masks row pairs value ws ≤ 64
+meetRows-max edges masks row pairs value ws = countBelow-le 64 (λ r. ltb row r && not (eqb (metWord edges masks row pairs value ws r) 0))
 
 -- A path's first entries have no more pairs than entries.
 pub size-take-max : (path : List ℕ) (k : ℕ) → size (take k path) ≤ k
@@ -57,6 +55,12 @@ module _ {n : ℕ} {edges masks path : List ℕ} {depth pairs : ℕ} {ws : List 
       let inside : depth - 1 < length path = omega (arith, bounds .depth-max, bounds .order-max, bounds .path-length) in
       bounds .pairs-are ∙ (rw deeper at (size-mapped path (depth - 1) inside mapped))
 
+  -- Where the last row is left out, there are fewer pairs than rows.
+  pub pairs-left-out : 0 < depth → getD path (depth - 1) 0 ≡ unmapped → pairs < depth
+  pairs-left-out h out =
+      let deeper : depth - 1 + 1 ≡ depth = omega arith in
+      omega (arith, bounds .pairs-are, size-take-max path (depth - 1), rw deeper at (size-left-out path (depth - 1) out))
+
 module _ {P : Problem} {n : ℕ} {edges masks : List ℕ} (setting : Setting P n edges masks) (path : List ℕ) (depth : ℕ) (long : length path ≡ 64)
     (within : depth ≤ P .old .order) (reached : Reached (rulesOf P) (take depth path)) where
   -- a row of the path that is not left out took a new vertex
@@ -72,19 +76,19 @@ module _ {P : Problem} {n : ℕ} {edges masks : List ℕ} (setting : Setting P n
 
   -- The words of the path's next prefix, once its last row, which took a new vertex, is refined.
   pub words-taken : {ws ws′ : List ℕ} (row : ℕ) → row < depth → (getD path row 0 ≡ unmapped → ⊥)
-      → Refined n edges masks row (size (take row path)) (getD path row 0) ws ws′ → Words P path row ws → Words P path (row + 1) ws′
+      → Refined edges masks row (size (take row path)) (getD path row 0) ws ws′ → Words P path row ws → Words P path (row + 1) ws′
   words-taken row h mapped refined words =
       let max = setting .sound .old-sound .order-max in
       words-refined P (setting .sound) (omega arith) refl (taken-value row h mapped) (setting .masks-are)
-      (rw (setting .order-is, setting .edges-is) refined) words
+      (rw (setting .edges-is) refined) words
 
 module _ {P : Problem} {n : ℕ} {edges masks path ws : List ℕ} {depth pairs : ℕ} (setting : Setting P n edges masks)
     (node : AtNode P path depth pairs ws) where
   -- The upper bound of a node, from its words.
-  pub node-bound : {ws′ : List ℕ} → Words P path depth ws′ → pairs + openRows n depth pairs ws′ ≡ upperBound (rulesOf P) (take depth path)
-  node-bound words =
+  pub node-bound : pairs < 64 → Words P path depth ws → pairs + openRows depth pairs ws ≡ upperBound (rulesOf P) (take depth path)
+  node-bound few words =
       let max = setting .sound .old-sound .order-max in
-      rw (node .pairs-are, ← setting .order-is) (sym (prefix-bound P (setting .sound) (omega (arith, node .depth-max, node .path-length)) words))
+      rw (node .pairs-are) (sym (prefix-bound P (setting .sound) (omega (arith, node .depth-max, node .path-length)) words (omega (arith, node .pairs-are))))
 
   -- The root's words are those of its ancestors: it has none.
   pub node-root : depth ≡ 0 → Words P path depth ws
@@ -98,7 +102,7 @@ module _ {P : Problem} {n : ℕ} {edges masks path ws : List ℕ} {depth pairs :
 
   -- Where the last row took a new vertex, the node's words are its parent's, refined.
   pub node-taken : {ws′ : List ℕ} → 0 < depth → (getD path (depth - 1) 0 ≡ unmapped → ⊥)
-      → Refined n edges masks (depth - 1) (pairs - 1) (getD path (depth - 1) 0) ws ws′ → Words P path depth ws′
+      → Refined edges masks (depth - 1) (pairs - 1) (getD path (depth - 1) 0) ws ws′ → Words P path depth ws′
   node-taken {ws′} h mapped refined =
       let max = setting .sound .old-sound .order-max in
       let inside : depth - 1 < length path = omega (arith, node .depth-max, node .path-length) in
@@ -108,10 +112,17 @@ module _ {P : Problem} {n : ℕ} {edges masks path ws : List ℕ} {depth pairs :
       rw deeper at (words-taken setting path depth (node .path-length) (node .depth-max) (node .reached) (depth - 1) (omega arith) mapped
       (rw before at refined) (node .words))
 
--- Whatever the problem: where the workspace has a node's words, its pairs and the rows counted in them are its upper bound.
-pub bound-of-count : {n : ℕ} {edges masks path ws ws′ : List ℕ} {depth pairs : ℕ} (count : ℕ) → count ≡ openRows n depth pairs ws′
-    → ((P : Problem) → Setting P n edges masks → AtNode P path depth pairs ws → Words P path depth ws′)
-    → ((P : Problem) → Setting P n edges masks → AtNode P path depth pairs ws → pairs + count ≡ upperBound (rulesOf P) (take depth path))
-    × ((P : Problem) → Setting P n edges masks → AtNode P path depth pairs ws → Words P path depth ws′)
-bound-of-count {pairs = pairs} count e words =
-    (λ P setting node. ap (λ (k : ℕ). pairs + k) e ∙ node-bound setting node (words P setting node), words)
+  -- Where the last row took a new vertex, its upper bound, from its parent's words.
+  pub node-taken-bound : 0 < depth → (getD path (depth - 1) 0 ≡ unmapped → ⊥)
+      → pairs + meetRows edges masks (depth - 1) (pairs - 1) (getD path (depth - 1) 0) ws ≡ upperBound (rulesOf P) (take depth path)
+  node-taken-bound h mapped =
+      let max = setting .sound .old-sound .order-max in
+      let row : ℕ = depth - 1 in
+      let inside : row < length path = omega (arith, node .depth-max, node .path-length) in
+      let deeper : row + 1 ≡ depth = omega arith in
+      let one : size (take depth path) ≡ size (take row path) + 1 = rw deeper at (size-mapped path row inside mapped) in
+      let before : pairs - 1 ≡ size (take row path) = omega (arith, node .pairs-are) in
+      let value = taken-value setting path depth (node .path-length) (node .depth-max) (node .reached) row (omega arith) mapped in
+      let last : take depth path ≡ extend (take row path) (getD path row 0) = rw deeper at (take-extend path row inside) in
+      let bound = taken-bound P (setting .sound) (omega arith) (node .words) (omega (arith, size-take-max path row)) (setting .masks-are) (getD path row 0) value in
+      rw (← setting .edges-is) (omega (arith, node .pairs-are, rw (← before, ← last) at bound))

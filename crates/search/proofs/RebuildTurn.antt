@@ -38,11 +38,11 @@ module _ {n : ℕ} {edges masks path : List ℕ} {depth : ℕ} {ws : List ℕ} w
 
   -- A row that took a new vertex is refined.
   pub rebuilt-taken : {ws′ ws″ : List ℕ} {row pairs : ℕ} → length path ≡ 64 → n ≤ 64 → depth ≤ n → row < depth → (getD path row 0 ≡ unmapped → ⊥)
-      → Refined n edges masks row pairs (getD path row 0) ws′ ws″
+      → Refined edges masks row pairs (getD path row 0) ws′ ws″
       → RebuiltTo n edges masks path depth ws ws′ row pairs → RebuiltTo n edges masks path depth ws ws″ (row + 1) (pairs + 1)
   rebuilt-taken {row = row} long few within h mapped refined s = record {
     within = omega arith;
-    kept-length = refined .words ∙ s .kept-length;
+    kept-length = refined .kept .words ∙ s .kept-length;
     pairs-are = omega (arith, s .pairs-are, size-mapped path row (omega arith) mapped);
     words = λ P setting reached root.
         words-taken setting path depth long (omega (arith, setting .order-is)) reached row h mapped (rw (s .pairs-are) at refined)

@@ -1,25 +1,23 @@
 -- The loop over one level's later siblings, on plain values: it starts with the row left out, and takes the bound of each greater member of
 -- the row's word.
 use mathlib.Core.Path.{_≡_}
-use mathlib.Core.Bool.{not}
 use mathlib.Core.List.{List, map, map-append}
 use Prim.Native.Nat.{ℕ, suc, _+_, _-_, _*_, _≤_, _<_, max}
 use native.Mathlib.Omega.{arith}
-use lib.Dec.{eqb}
 use lib.ListN.{length, getD, take}
 use borrow.Author.Tests.{lt-ltb}
 use Rattle.bitset.specs.Least.{leastAbove}
 use Rattle.bitset.specs.declared.Least.{Least}
 use Rattle.bitset.specs.declared.Least.the-variants.{Member, Empty}
 use Rattle.bitset.proofs.LeastBelow.{leastAbove-Member}
-use Rattle.graph.proofs.Below.{count-above}
 use Rattle.mapping.specs.Problem.{Problem}
 use Rattle.mapping.specs.Common.{unmapped, size}
 use Rattle.search_tree.specs.Rules.{Rules, rulesOf}
 use Rattle.search_tree.specs.Node.{upperBound, extend, choicesAfter}
 use Rattle.search_tree.specs.Ceiling.{topBound}
-use Rattle.search.specs.Words.{Words, metWord, openRows, meetRows}
+use Rattle.search.specs.Words.{levelWord, openRows, meetRows, Words}
 use Rattle.search.specs.Walking.{Setting, InBounds}
+use Rattle.search.proofs.NodeWords.{size-take-max}
 use Rattle.search.proofs.WordBounds.{left-out-bound, taken-bound}
 use Rattle.search.proofs.WordChoices.{next-taken}
 use Rattle.search.proofs.WordCeiling.{topBound-append, topBound-next, topBound-last}
@@ -27,10 +25,6 @@ use Rattle.search.proofs.WordCeiling.{topBound-append, topBound-next, t
 -- one more than the greatest bound of the choices after w
 abbrev pub levelTop : Rules → List ℕ → ℕ → ℕ
 levelTop R q w = topBound R (map (extend q) (choicesAfter R q w))
-
--- Only rows after the one taken are counted.
-pub meetRows-max : (n : ℕ) (edges masks : List ℕ) (row pairs value : ℕ) (ws : List ℕ) → meetRows n edges masks row pairs value ws ≤ n - suc row
-meetRows-max n edges masks row pairs value ws = count-above n row (λ r. not (eqb (metWord edges masks row pairs value ws r) 0))
 
 -- The row left out is among the choices after a value.
 pub left-out-counts : (R : Rules) (q : List ℕ) (w : ℕ) → w < unmapped → 1 + upperBound R (extend q unmapped) ≤ levelTop R q w
@@ -48,24 +42,27 @@ module _ {n : ℕ} {edges masks path ws : List ℕ} {row pairs : ℕ} (bounds : 
   inside : row ≤ length path
   inside = omega (arith, bounds .path-length, bounds .order-max)
 
+  few : size (take row path) < 64
+  few = omega (arith, bounds .order-max, size-take-max path row)
+
   -- the code's bound with the row left out
   left-out-is : (P : Problem) → Setting P n edges masks → Words P path row ws
-      → upperBound (rulesOf P) (extend (take row path) unmapped) ≡ pairs + openRows n (row + 1) pairs ws
-  left-out-is P setting words = rw (bounds .pairs-are, ← setting .order-is) (left-out-bound P (setting .sound) inside words)
+      → upperBound (rulesOf P) (extend (take row path) unmapped) ≡ pairs + openRows (row + 1) pairs ws
+  left-out-is P setting words = rw (bounds .pairs-are) (left-out-bound P (setting .sound) inside words few)
 
   -- the code's bound with the row taking v
   taken-is : (P : Problem) → Setting P n edges masks → Words P path row ws → (v : ℕ) → v < P .new .order
-      → upperBound (rulesOf P) (extend (take row path) v) ≡ pairs + 1 + meetRows n edges masks row pairs v ws
+      → upperBound (rulesOf P) (extend (take row path) v) ≡ pairs + 1 + meetRows edges masks row pairs v ws
   taken-is P setting words v h =
-      rw (bounds .pairs-are, ← setting .order-is, ← setting .edges-is) (taken-bound P (setting .sound) inside words (setting .masks-are) v h)
+      rw (bounds .pairs-are, ← setting .edges-is) (taken-bound P (setting .sound) inside words few (setting .masks-are) v h)
 
   -- a member of the code's word is one of the problem's
-  word-is : (last : ℕ) {l : Least} → leastAbove (getD ws (64 * pairs + row) 0) last ≡ l
-      → leastAbove (getD ws (64 * size (take row path) + row) 0) last ≡ l
+  word-is : (last : ℕ) {l : Least} → leastAbove (levelWord ws pairs row) last ≡ l
+      → leastAbove (levelWord ws (size (take row path)) row) last ≡ l
   word-is last e = rw (bounds .pairs-are) at e
 
   -- The maximum starts with the bound of the row left out.
-  pub row-first : (value : ℕ) → value < 64 → RowHead n edges masks path ws row value (pairs + 1 + openRows n (row + 1) pairs ws) value
+  pub row-first : (value : ℕ) → value < 64 → RowHead n edges masks path ws row value (pairs + 1 + openRows (row + 1) pairs ws) value
   row-first value h = record {
     small = h;
     tops = λ P setting words.
@@ -75,10 +72,10 @@ module _ {n : ℕ} {edges masks path ws : List ℕ} {row pairs : ℕ} (bounds : 
 
   -- The least member of the word above the last value counts its own bound.
   pub row-more : {value top last v above : ℕ} → RowHead n edges masks path ws row value top last
-      → leastAbove (getD ws (64 * pairs + row) 0) last ≡ Member v
-      → above ≡ max top (pairs + 2 + meetRows n edges masks row pairs v ws) → RowHead n edges masks path ws row value above v
+      → leastAbove (levelWord ws pairs row) last ≡ Member v
+      → above ≡ max top (pairs + 2 + meetRows edges masks row pairs v ws) → RowHead n edges masks path ws row value above v
   row-more {value} {top} {last} {v} {above} head e a = record {
-    small = leastAbove-Member (getD ws (64 * pairs + row) 0) last e .below;
+    small = leastAbove-Member (levelWord ws pairs row) last e .below;
     tops = λ P setting words.
         let row-is : row < P .old .order = omega (arith, setting .order-is) in
         let next = next-taken P (setting .sound) inside row-is words last (word-is last e) in
@@ -90,7 +87,7 @@ module _ {n : ℕ} {edges masks path ws : List ℕ} {row pairs : ℕ} (bounds : 
 
   -- With no member above the last value, the maximum is that of the level.
   pub row-all : {value top last : ℕ} → RowHead n edges masks path ws row value top last
-      → leastAbove (getD ws (64 * pairs + row) 0) last ≡ Empty
+      → leastAbove (levelWord ws pairs row) last ≡ Empty
       → (P : Problem) → Setting P n edges masks → Words P path row ws → top ≡ levelTop (rulesOf P) (take row path) value
   row-all {value} {top} {last} head e P setting words =
       let row-is : row < P .old .order = omega (arith, setting .order-is) in

@@ -17,7 +17,7 @@ use Rattle.search_tree.specs.Ceiling.{topBound}
 use Rattle.search_tree.proofs.Children.{Choice, mem-choices, child-is}
 use Rattle.search_tree.proofs.Choices.{mem-choicesAfter}
 use Rattle.search_tree.proofs.BoundFalls.{bound-falls}
-use Rattle.search.specs.Words.{Words}
+use Rattle.search.specs.Words.{levelWord, Words}
 use Rattle.search.proofs.WordChoices.{choicesAfter-left-out, siblings-left-out, next-taken, next-left-out}
 
 module _ (R : Rules) where
@@ -80,7 +80,7 @@ module _ (P : Problem) (sound : SoundProblem P) where
 
   module _ {path ws : List ℕ} {k : ℕ} (inside : k ≤ length path) (row : k < P .old .order) (words : Words P path k ws) where
     -- After w comes the least member v above it: its bound counts beside those after v.
-    pub topBound-next : (w : ℕ) {v : ℕ} → leastAbove (getD ws (64 * size (take k path) + k) 0) w ≡ Member v
+    pub topBound-next : (w : ℕ) {v : ℕ} → leastAbove (levelWord ws (size (take k path)) k) w ≡ Member v
         → topBound (rulesOf P) (map (extend (take k path)) (choicesAfter (rulesOf P) (take k path) w))
         ≡ max (1 + upperBound (rulesOf P) (extend (take k path) v))
         (topBound (rulesOf P) (map (extend (take k path)) (choicesAfter (rulesOf P) (take k path) v)))
@@ -88,7 +88,7 @@ module _ (P : Problem) (sound : SoundProblem P) where
     topBound-next w {v} e = rw (next-taken P sound inside row words w e .after-are)
 
     -- Where no member is above w, the bound with the row left out is the last.
-    pub topBound-last : (w : ℕ) → w < unmapped → leastAbove (getD ws (64 * size (take k path) + k) 0) w ≡ Empty
+    pub topBound-last : (w : ℕ) → w < unmapped → leastAbove (levelWord ws (size (take k path)) k) w ≡ Empty
         → topBound (rulesOf P) (map (extend (take k path)) (choicesAfter (rulesOf P) (take k path) w))
         ≡ 1 + upperBound (rulesOf P) (extend (take k path) unmapped)
     unfolding topBound

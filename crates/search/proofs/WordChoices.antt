@@ -24,7 +24,7 @@ use Rattle.search_tree.proofs.Passing.{passing}
 use Rattle.search_tree.proofs.Candidates.{candidate-value}
 use Rattle.search_tree.proofs.Children.{children-inner}
 use Rattle.search_tree.proofs.Choices.{choicesAfter-first, choicesAfter-next}
-use Rattle.search.specs.Words.{Words}
+use Rattle.search.specs.Words.{levelWord, Words}
 use Rattle.search.proofs.WordLevels.{row-member}
 
 -- where no number below n passes, the list is empty
@@ -115,11 +115,11 @@ module _ (P : Problem) (sound : SoundProblem P) where
 
   module _ {path ws : List ℕ} (inner : length path < P .old .order) (words : Words P path (length path) ws) where
     -- The members of the next row's word are its candidates.
-    pub own-member : (v : ℕ) → member (getD ws (64 * size path + length path) 0) v ≡ candidate (rulesOf P) path (length path) v
+    pub own-member : (v : ℕ) → member (levelWord ws (size path) (length path)) v ≡ candidate (rulesOf P) path (length path) v
     own-member v = rw take-length at (row-member P sound inner words v)
 
     -- The least member of the next row's word is the first choice.
-    pub first-taken : {v : ℕ} → leastMember (getD ws (64 * size path + length path) 0) ≡ Member v → FirstTaken P path v
+    pub first-taken : {v : ℕ} → leastMember (levelWord ws (size path) (length path)) ≡ Member v → FirstTaken P path v
     first-taken {v} e =
         let least = leastBelow-Member 64 _ e in
         let c : candidate (rulesOf P) path (length path) v ≡ true = sym (own-member v) ∙ least .passes in
@@ -132,7 +132,7 @@ module _ (P : Problem) (sound : SoundProblem P) where
         }
 
     -- An empty word of the next row leaves 255 alone.
-    pub only-left-out : leastMember (getD ws (64 * size path + length path) 0) ≡ Empty → OnlyLeftOut P path
+    pub only-left-out : leastMember (levelWord ws (size path) (length path)) ≡ Empty → OnlyLeftOut P path
     only-left-out e =
         let small = sound .new-sound .order-max in
         let all = choices-none (rulesOf P) few path (λ i h. sym (own-member i) ∙ leastBelow-Empty 64 _ e i (omega arith)) in
@@ -152,10 +152,10 @@ module _ (P : Problem) (sound : SoundProblem P) where
     depth = length-take-le k path inside
 
     -- The least member above w of row k's word is the choice after w.
-    pub next-taken : (w : ℕ) {v : ℕ} → leastAbove (getD ws (64 * size (take k path) + k) 0) w ≡ Member v → NextTaken P (take k path) k w v
+    pub next-taken : (w : ℕ) {v : ℕ} → leastAbove (levelWord ws (size (take k path)) k) w ≡ Member v → NextTaken P (take k path) k w v
     next-taken w {v} e =
         let q = take k path in
-        let word = getD ws (64 * size q + k) 0 in
+        let word = levelWord ws (size q) k in
         let least = leastAbove-Member word w e in
         let c : candidate (rulesOf P) q k v ≡ true = sym (row-member P sound row words v) ∙ least .isMember in
         let next : choicesAfter (rulesOf P) q w ≡ v ∷ choicesAfter (rulesOf P) q v =
@@ -164,23 +164,23 @@ module _ (P : Problem) (sound : SoundProblem P) where
         record { above = least .above; isCandidate = c; value = candidate-value (rulesOf P) q k v c; after-are = next }
 
     -- Where no member of row k's word is above w, 255 is the choice after w, and the last.
-    pub next-left-out : (w : ℕ) → w < unmapped → leastAbove (getD ws (64 * size (take k path) + k) 0) w ≡ Empty
+    pub next-left-out : (w : ℕ) → w < unmapped → leastAbove (levelWord ws (size (take k path)) k) w ≡ Empty
         → choicesAfter (rulesOf P) (take k path) w ≡ unmapped ∷ []
     next-left-out w h e =
-        let word = getD ws (64 * size (take k path) + k) 0 in
+        let word = levelWord ws (size (take k path)) k in
         let small = sound .new-sound .order-max in
         after-none (rulesOf P) few (take k path) w h
         (λ i l b. rw depth (sym (row-member P sound row words i) ∙ leastAbove-Empty word w e i l (omega arith)))
 
     -- The nearest later sibling takes the least member above the entry.
-    pub siblings-taken : {v : ℕ} → leastAbove (getD ws (64 * size (take k path) + k) 0) (getD path k 0) ≡ Member v
+    pub siblings-taken : {v : ℕ} → leastAbove (levelWord ws (size (take k path)) k) (getD path k 0) ≡ Member v
         → laterSiblings (rulesOf P) path (k + 1)
         ≡ extend (take k path) v ∷ (map (extend (take k path)) (choicesAfter (rulesOf P) (take k path) v) ++ laterSiblings (rulesOf P) path k)
     unfolding laterSiblings
     siblings-taken e = rw (add-one, next-taken (getD path k 0) e .after-are)
 
     -- Where no member is above the entry, the nearest later sibling leaves the row out.
-    pub siblings-last : getD path k 0 < unmapped → leastAbove (getD ws (64 * size (take k path) + k) 0) (getD path k 0) ≡ Empty
+    pub siblings-last : getD path k 0 < unmapped → leastAbove (levelWord ws (size (take k path)) k) (getD path k 0) ≡ Empty
         → laterSiblings (rulesOf P) path (k + 1) ≡ extend (take k path) unmapped ∷ laterSiblings (rulesOf P) path k
     unfolding laterSiblings
     siblings-last h e = rw (add-one, next-left-out (getD path k 0) h e)

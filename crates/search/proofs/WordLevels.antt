@@ -22,15 +22,16 @@ use Rattle.mapping.proofs.Size.{counted, counted-mapped, size-nil, size-cons, s
 use Rattle.search_tree.specs.Rules.{rulesOf}
 use Rattle.search_tree.specs.Node.{candidate, extend}
 use Rattle.search_tree.proofs.Candidates.{candidate-extend, candidate-value}
-use Rattle.search.specs.Words.{wordOf, Masks, RootWords, metWord, Refined, Words}
+use Rattle.search.specs.Words.{wordOf, Masks, levelWord, ExactSet, SameLevels, RootWords, metWord, Refined, Words}
+use Rattle.search.proofs.Levels.{exact-same}
 
 -- The words of a path are those of its first entries too.
 pub words-shorter : {P : Problem} {path ws : List ℕ} {d e : ℕ} → e ≤ d → Words P path d ws → Words P path e ws
-words-shorter h words = record { word = λ k l r. words .word k (omega arith) r }
+words-shorter h words = record { word = λ k l r. words .word k (omega arith) r; exact = λ k l. words .exact k (omega arith) }
 
 -- Words of the first d entries depend on those entries alone.
 pub words-same : {P : Problem} {ws : List ℕ} (p q : List ℕ) (d : ℕ) → take d p ≡ take d q → Words P p d ws → Words P q d ws
-words-same p q d same words = record { word = λ k l r. rw (prefix k l) at (words .word k l r) }
+words-same p q d same words = record { word = λ k l r. rw (prefix k l) at (words .word k l r); exact = λ k l. rw (prefix k l) at (words .exact k l) }
   where
     prefix : (k : ℕ) → k ≤ d → take k p ≡ take k q
     prefix k l = sym (take-take k d p l) ∙ ap (take k) same ∙ take-take k d q l
@@ -85,16 +86,23 @@ module _ (P : Problem) where
 
   -- the words of one more prefix are added to those of the shorter ones
   words-one-more : {path ws : List ℕ} {row : ℕ} → Words P path row ws
-      → ((r : ℕ) → row + 1 ≤ r → r < P .old .order → getD ws (64 * size (take (row + 1) path) + r) 0 ≡ wordOf P (take (row + 1) path) r)
+      → ((r : ℕ) → row + 1 ≤ r → r < P .old .order → levelWord ws (size (take (row + 1) path)) r ≡ wordOf P (take (row + 1) path) r)
+      → (size (take (row + 1) path) < 64 → ExactSet (P .old .order) (size (take (row + 1) path)) ws)
       → Words P path (row + 1) ws
-  words-one-more {path} {ws} {row} words last = record { word = λ k h. ⊎-elim (top k) (λ l. words .word k (omega arith)) (eq-or-lt-of-le h) }
+  words-one-more {path} {ws} {row} words last set = record {
+    word = λ k h. ⊎-elim (top k) (λ l. words .word k (omega arith)) (eq-or-lt-of-le h);
+    exact = λ k h. ⊎-elim (top-set k) (λ l. words .exact k (omega arith)) (eq-or-lt-of-le h);
+  }
     where
-      top : (k : ℕ) → k ≡ row + 1 → (r : ℕ) → k ≤ r → r < P .old .order → getD ws (64 * size (take k path) + r) 0 ≡ wordOf P (take k path) r
+      top-set : (k : ℕ) → k ≡ row + 1 → size (take k path) < 64 → ExactSet (P .old .order) (size (take k path)) ws
+      top-set k e = rw e set
+
+      top : (k : ℕ) → k ≡ row + 1 → (r : ℕ) → k ≤ r → r < P .old .order → levelWord ws (size (take k path)) r ≡ wordOf P (take k path) r
       top k e = rw e last
 
   -- A row that is left out: the words before it serve the longer prefix.
   pub words-left-out : {path ws : List ℕ} {row : ℕ} → getD path row 0 ≡ unmapped → Words P path row ws → Words P path (row + 1) ws
-  words-left-out {path} {ws} {row} e words = words-one-more words same
+  words-left-out {path} {ws} {row} e words = words-one-more words same (rw (size-left-out path row e) (words .exact row (le-refl row)))
     where
       q : List ℕ
       q = take row path
@@ -102,7 +110,7 @@ module _ (P : Problem) where
       next : take (row + 1) path ≡ extend q unmapped
       next = take-extend path row (left-out-inside path row e) ∙ ap (extend q) e
 
-      same : (r : ℕ) → row + 1 ≤ r → r < P .old .order → getD ws (64 * size (take (row + 1) path) + r) 0 ≡ wordOf P (take (row + 1) path) r
+      same : (r : ℕ) → row + 1 ≤ r → r < P .old .order → levelWord ws (size (take (row + 1) path)) r ≡ wordOf P (take (row + 1) path) r
       same r l b =
           rw (size-left-out path row e, next, word-left-out q r) (words .word row (le-refl row) r (omega arith) b)
 
@@ -121,7 +129,7 @@ module _ (P : Problem) (sound : SoundProblem P) where
 
   -- The members of row k's word are its candidates after the first k entries.
   pub row-member : {path ws : List ℕ} {k : ℕ} → k < P .old .order → Words P path k ws
-      → (v : ℕ) → member (getD ws (64 * size (take k path) + k) 0) v ≡ candidate (rulesOf P) (take k path) k v
+      → (v : ℕ) → member (levelWord ws (size (take k path)) k) v ≡ candidate (rulesOf P) (take k path) k v
   row-member {path} {ws} {k} row words v = rw (words .word k (le-refl k) k (le-refl k) row) (member-word (take k path) k v)
 
   -- at the root a candidate is a new vertex with the row's label
@@ -132,13 +140,18 @@ module _ (P : Problem) (sound : SoundProblem P) where
   -- The words of the root stand at level 0, whatever the path.
   pub root-words : {ws ws′ : List ℕ} → RootWords (P .old .order) (P .old .labels) (P .new .order) (P .new .labels) ws ws′
       → (path : List ℕ) → Words P path 0 ws′
-  root-words {ws} {ws′} filled path = record { word = λ k h r l b. at-root k (omega arith) r b }
+  root-words {ws} {ws′} filled path = record {
+    word = λ k h r l b. at-root k (omega arith) r b;
+    exact = λ k h l. exact-root k (omega arith);
+  }
     where
-      at-root : (k : ℕ) → k ≡ 0 → (r : ℕ) → r < P .old .order → getD ws′ (64 * size (take k path) + r) 0 ≡ wordOf P (take k path) r
+      exact-root : (k : ℕ) → k ≡ 0 → ExactSet (P .old .order) (size (take k path)) ws′
+      exact-root k e = rw (e, size-nil) (filled .exact)
+
+      at-root : (k : ℕ) → k ≡ 0 → (r : ℕ) → r < P .old .order → levelWord ws′ (size (take k path)) r ≡ wordOf P (take k path) r
       at-root k e r b =
           let test : ℕ → Bool = λ v. eqb (getD (P .old .labels) r 0) (getD (P .new .labels) v 0) in
-          let level : 64 * size [] + r ≡ r = omega (arith, size-nil) in
-          rw (e, level, filled .root r b) (setOf-within (P .new .order) test (sound .new-sound .order-max)
+          rw (e, size-nil, filled .root r b) (setOf-within (P .new .order) test (sound .new-sound .order-max)
           ∙ sym (setOf-congr 64 (candidate (rulesOf P) [] r) (λ v. ltb v (P .new .order) && test v) (λ v h. candidate-root r v)))
 
   -- of the candidates of a later row those stay, once w is taken, that are in the mask of w and the old edge
@@ -158,7 +171,7 @@ module _ (P : Problem) (sound : SoundProblem P) where
 
   -- The word of a later row, met with the mask of w and the old edge, is its word once w is taken.
   pub met-word : {masks : List ℕ} → Masks (graph (P .new .order) [] (P .new .edges)) masks
-      → (q : List ℕ) (pairs w r : ℕ) (ws : List ℕ) → length q < 64 → r < 64 → w < P .new .order → getD ws (64 * pairs + r) 0 ≡ wordOf P q r
+      → (q : List ℕ) (pairs w r : ℕ) (ws : List ℕ) → length q < 64 → r < 64 → w < P .new .order → levelWord ws pairs r ≡ wordOf P q r
       → metWord (P .old .edges) masks (length q) pairs w ws r ≡ wordOf P (extend q w) r
   met-word {masks} made q pairs w r ws hq hr hw known =
       let k = edge (P .old) (length q) r in
@@ -168,25 +181,34 @@ module _ (P : Problem) (sound : SoundProblem P) where
       (meetOf-setOf 64 (candidate (rulesOf P) q r) mask (le-refl 64)
       ∙ setOf-congr 64 _ (candidate (rulesOf P) (extend q w) r) (λ v h. candidate-masked q w r v hw))
 
+  -- Words at levels that are unchanged still stand.
+  pub words-kept : {path ws ws′ : List ℕ} {row pairs : ℕ} → size (take row path) ≤ pairs → SameLevels pairs ws ws′ → Words P path row ws → Words P path row ws′
+  words-kept {path} {row = row} few same words = record {
+    word = λ k l r a b.
+        same .word (size (take k path)) r (omega (arith, size-take-le path k row l)) (omega (arith, sound .old-sound .order-max)) ∙ words .word k l r a b;
+    exact = λ k l h. exact-same same (omega (arith, size-take-le path k row l)) (sound .old-sound .order-max) (words .exact k l h);
+  }
+
   -- A row that takes a new vertex w: the refined words are those of the longer prefix.
   pub words-refined : {path masks ws ws′ : List ℕ} {row w : ℕ} → row < length path → getD path row 0 ≡ w → w < P .new .order
       → Masks (graph (P .new .order) [] (P .new .edges)) masks
-      → Refined (P .old .order) (P .old .edges) masks row (size (take row path)) w ws ws′
+      → Refined (P .old .edges) masks row (size (take row path)) w ws ws′
       → Words P path row ws → Words P path (row + 1) ws′
   words-refined {path} {masks} {ws} {ws′} {row} {w} h e hw made step words =
-      words-one-more P (record { word = before }) above
+      words-one-more P (words-kept (le-refl _) (step .kept) words) above set
     where
       q : List ℕ
       q = take row path
 
-      before : (k : ℕ) → k ≤ row → (r : ℕ) → k ≤ r → r < P .old .order → getD ws′ (64 * size (take k path) + r) 0 ≡ wordOf P (take k path) r
-      before k l r a b =
-          step .kept (64 * size (take k path) + r) (inl (omega (arith, size-take-le path k row l, sound .old-sound .order-max)))
-          ∙ words .word k l r a b
+      pairs : size (take (row + 1) path) ≡ size q + 1
+      pairs = size-taken sound path row h e hw
 
-      above : (r : ℕ) → row + 1 ≤ r → r < P .old .order → getD ws′ (64 * size (take (row + 1) path) + r) 0 ≡ wordOf P (take (row + 1) path) r
+      set : size (take (row + 1) path) < 64 → ExactSet (P .old .order) (size (take (row + 1) path)) ws′
+      set few = rw pairs (step .exact (P .old .order) (omega (arith, pairs)) (words .exact row (le-refl row) (omega (arith, pairs))))
+
+      above : (r : ℕ) → row + 1 ≤ r → r < P .old .order → levelWord ws′ (size (take (row + 1) path)) r ≡ wordOf P (take (row + 1) path) r
       above r a b =
           let depth : length q ≡ row = length-take-le row path (omega arith) in
           let max = sound .old-sound .order-max in
           let met = met-word made q (size q) w r ws (omega arith) (omega arith) hw (words .word row (le-refl row) r (omega arith) b) in
-          rw (size-taken sound path row h e hw, take-extend path row h, e, step .met r (omega arith) b) (rw depth at met)
+          rw (pairs, take-extend path row h, e, step .met r (omega arith) (omega arith)) (rw depth at met)

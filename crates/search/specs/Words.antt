@@ -1,14 +1,14 @@
 -- What the workspace and the masks hold while the search walks: candidate sets as 64-bit words (01, "The walk", "Each set is one 64-bit word").
 use mathlib.Core.Path.{_≡_}
-use mathlib.Core.Bool.{cond, not, _&&_}
-use mathlib.Core.Logic.{_⊎_}
+use mathlib.Core.Bool.{true, cond, not, _&&_}
+use mathlib.Core.Logic.{_⊎_, _≢_}
 use mathlib.Core.List.{List}
 use Prim.Native.Nat.{ℕ, _+_, _*_, _≤_, _<_}
 use lib.Dec.{leb, ltb, eqb}
 use lib.ListN.{length, getD, take}
-use Rattle.bitset.specs.Members.{setOf, meetOf}
+use Rattle.bitset.specs.Members.{member, setOf, meetOf}
+use Rattle.bitset.specs.Count.{countBelow}
 use Rattle.graph.specs.Graph.{Graph, place, edge}
-use Rattle.graph.specs.Below.{sumBelow}
 use Rattle.mapping.specs.Problem.{Problem}
 use Rattle.mapping.specs.Common.{size}
 use Rattle.search_tree.specs.Rules.{rulesOf}
@@ -33,32 +33,54 @@ pub record MaskRow (g : Graph) (w : ℕ) (masks masks′ : List ℕ) : Type 0 wh
   pub mask : (k : ℕ) → k < 256 → getD masks′ (256 * w + k) 0 ≡ maskOf g w k
   pub kept : (i : ℕ) → (i < 256 * w) ⊎ (256 * w + 256 ≤ i) → getD masks′ i 0 ≡ getD masks i 0
 
--- the words of the root are filled in, and nothing else changes
+-- Words stand by level, the number of pairs on the path: word 64 * pairs + row. With 64 pairs no row is undecided, so the places of level 64
+-- hold something else: for each level the set of its rows that have a candidate.
+abbrev pub openSet : ℕ → List ℕ → ℕ
+openSet pairs workspace = getD workspace (4096 + pairs) 0
+
+-- the word of a row at a level; a row that is not in the level's set has the empty set, whatever its place holds
+unfoldable pub levelWord : List ℕ → ℕ → ℕ → ℕ
+levelWord workspace pairs r = cond (member (openSet pairs workspace) r) (getD workspace (64 * pairs + r) 0) 0
+
+-- a level's set holds only rows below n, and only those with a candidate
+pub record ExactSet (n pairs : ℕ) (workspace : List ℕ) : Type 0 where
+  pub inside : (r : ℕ) → member (openSet pairs workspace) r ≡ true → r < n
+  pub filled : (r : ℕ) → member (openSet pairs workspace) r ≡ true → levelWord workspace pairs r ≢ 0
+
+-- the levels up to `pairs` are unchanged
+pub record SameLevels (pairs : ℕ) (workspace workspace′ : List ℕ) : Type 0 where
+  pub words : length workspace′ ≡ length workspace
+  pub sets : (p : ℕ) → p ≤ pairs → openSet p workspace′ ≡ openSet p workspace
+  pub word : (p r : ℕ) → p ≤ pairs → r < 64 → levelWord workspace′ p r ≡ levelWord workspace p r
+
+-- level 0 holds the words of the root
 pub record RootWords (n : ℕ) (labels : List ℕ) (m : ℕ) (newLabels workspace workspace′ : List ℕ) : Type 0 where
   pub words : length workspace′ ≡ length workspace
-  pub root : (r : ℕ) → r < n → getD workspace′ r 0 ≡ setOf m (λ v. eqb (getD labels r 0) (getD newLabels v 0))
-  pub kept : (i : ℕ) → n ≤ i → getD workspace′ i 0 ≡ getD workspace i 0
+  pub root : (r : ℕ) → r < n → levelWord workspace′ 0 r ≡ setOf m (λ v. eqb (getD labels r 0) (getD newLabels v 0))
+  pub exact : ExactSet n 0 workspace′
 
 -- the word that a later row r has once `row`, with `pairs` pairs before it, took `value`
 abbrev pub metWord : List ℕ → List ℕ → ℕ → ℕ → ℕ → List ℕ → ℕ → ℕ
 metWord edges masks row pairs value workspace r =
-    meetOf (getD workspace (64 * pairs + r) 0) (getD masks (256 * value + getD edges (place row r) 0) 0)
+    meetOf (levelWord workspace pairs r) (getD masks (256 * value + getD edges (place row r) 0) 0)
 
--- the words of the rows after `row` are filled in one level up, and nothing else changes
-pub record Refined (n : ℕ) (edges masks : List ℕ) (row pairs value : ℕ) (workspace workspace′ : List ℕ) : Type 0 where
-  pub words : length workspace′ ≡ length workspace
-  pub met : (r : ℕ) → row < r → r < n → getD workspace′ (64 * (pairs + 1) + r) 0 ≡ metWord edges masks row pairs value workspace r
-  pub kept : (i : ℕ) → (i ≤ 64 * (pairs + 1) + row) ⊎ (64 * (pairs + 1) + n ≤ i) → getD workspace′ i 0 ≡ getD workspace i 0
+-- the next level holds the words of the rows after `row`, and the levels before it are unchanged
+pub record Refined (edges masks : List ℕ) (row pairs value : ℕ) (workspace workspace′ : List ℕ) : Type 0 where
+  pub kept : SameLevels pairs workspace workspace′
+  pub met : (r : ℕ) → row < r → r < 64 → levelWord workspace′ (pairs + 1) r ≡ metWord edges masks row pairs value workspace r
+  pub exact : (n : ℕ) → pairs + 1 < 64 → ExactSet n pairs workspace → ExactSet n (pairs + 1) workspace′
 
--- how many rows from depth on have a word that is not empty
-abbrev pub openRows : ℕ → ℕ → ℕ → List ℕ → ℕ
-openRows n depth pairs workspace = sumBelow n (λ r. cond (leb depth r && not (eqb (getD workspace (64 * pairs + r) 0) 0)) 1 0)
+-- how many rows from depth on are in the level's set
+abbrev pub openRows : ℕ → ℕ → List ℕ → ℕ
+openRows depth pairs workspace = countBelow 64 (λ r. leb depth r && member (openSet pairs workspace) r)
 
-abbrev pub meetRows : ℕ → List ℕ → List ℕ → ℕ → ℕ → ℕ → List ℕ → ℕ
-meetRows n edges masks row pairs value workspace =
-    sumBelow n (λ r. cond (ltb row r && not (eqb (metWord edges masks row pairs value workspace r) 0)) 1 0)
+-- how many rows after `row` have a candidate once it took `value`
+abbrev pub meetRows : List ℕ → List ℕ → ℕ → ℕ → ℕ → List ℕ → ℕ
+meetRows edges masks row pairs value workspace =
+    countBelow 64 (λ r. ltb row r && not (eqb (metWord edges masks row pairs value workspace r) 0))
 
 -- the words of each of the path's first k entries, k up to depth, stand at its number of pairs: a left-out row changes no word
 pub record Words (P : Problem) (path : List ℕ) (depth : ℕ) (workspace : List ℕ) : Type 0 where
   pub word : (k : ℕ) → k ≤ depth → (r : ℕ) → k ≤ r → r < P .old .order
-      → getD workspace (64 * size (take k path) + r) 0 ≡ wordOf P (take k path) r
+      → levelWord workspace (size (take k path)) r ≡ wordOf P (take k path) r
+  pub exact : (k : ℕ) → k ≤ depth → size (take k path) < 64 → ExactSet (P .old .order) (size (take k path)) workspace

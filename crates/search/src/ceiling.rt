@@ -13,7 +13,7 @@ ghost use Rattle.search_tree.specs.Rules.{rulesOf};
 ghost use Rattle.search_tree.specs.Node.{extend, choicesAfter, laterSiblings};
 ghost use Rattle.search_tree.specs.Ceiling.{topBound, ceiling as ceilingOf};
 ghost use Rattle.search.specs.Walking.{Setting, AtNode, InBounds, Ready, walkState};
-ghost use Rattle.search.specs.Words.{Words};
+ghost use Rattle.search.specs.Words.{Words, SameLevels};
 
 // One more than the greatest upper bound among the later siblings at `row`, which has taken `value` after `pairs` pairs. `path` is read by the
 // contract alone.
@@ -22,25 +22,24 @@ pub fn row_top(
     edges: &[u8],
     masks: &[u64],
     path: &[u8; 64],
-    workspace: &[u64],
+    workspace: &mut [u64],
     row: usize,
     pairs: usize,
     value: usize,
 ) -> usize
     requires { ⌜ InBounds order (now edges) (now masks) (now path) row pairs (now workspace) ⌝ }
     requires { ⌜ (row < order) × (value < 64) ⌝ }
-    ensures { λ r. ⌜ ((P : Problem) → Setting P order (now (edges .entry)) (now (masks .entry)) → Words P (now (path .entry)) row (now (workspace .entry))
+    ensures kept { λ _. ⌜ SameLevels pairs (now (workspace .entry)) (now (workspace .exit)) ⌝ }
+    ensures top { λ r. ⌜ ((P : Problem) → Setting P order (now (edges .entry)) (now (masks .entry)) → Words P (now (path .entry)) row (now (workspace .entry))
         → r ≡ topBound (rulesOf P) (map (extend (take row (now (path .entry)))) (choicesAfter (rulesOf P) (take row (now (path .entry))) value))) ⌝ }
 {
-    let word = workspace[64 * pairs + row];
-    let mut top = pairs + 1 + words::count_open(order, workspace, row + 1, pairs);
+    let word = words::level_word(workspace, pairs, row);
+    let mut top = pairs + 1 + words::count_open(workspace, row + 1, pairs);
     let mut last = value;
     loop {
         match bitset::least_above(word, last) {
             Least::Member(v) => {
-                let above = pairs
-                    + 2
-                    + words::count_refined(order, edges, masks, workspace, row, pairs, v);
+                let above = pairs + 2 + words::refine(edges, masks, workspace, row, pairs, v);
                 if top < above {
                     top = above;
                 }
@@ -60,7 +59,7 @@ pub fn later_top(
     edges: &[u8],
     masks: &[u64],
     path: &[u8; 64],
-    workspace: &[u64],
+    workspace: &mut [u64],
     depth: usize,
     pairs: usize,
     least: usize,
@@ -77,7 +76,7 @@ pub fn later_top(
         let last = path[row];
         if last != 255 {
             left -= 1;
-            let limit = left + 1 + words::count_open(order, workspace, row, left);
+            let limit = left + 1 + words::count_open(workspace, row, left);
             if top < limit {
                 let above = row_top(
                     order,

@@ -51,23 +51,14 @@ pub fn upper_bound(
     ensures small { λ r. ⌜ r ≤ 128 ⌝ }
 {
     if depth == 0 {
-        return pairs + words::count_open(order, workspace, depth, pairs);
+        return pairs + words::count_open(workspace, depth, pairs);
     }
     let row = depth - 1;
     let last = path[row];
     if last == 255 {
-        return pairs + words::count_open(order, workspace, depth, pairs);
+        return pairs + words::count_open(workspace, depth, pairs);
     }
-    pairs
-        + words::refine(
-            order,
-            edges,
-            masks,
-            workspace,
-            row,
-            pairs - 1,
-            last as usize,
-        )
+    pairs + words::refine(edges, masks, workspace, row, pairs - 1, last as usize)
 }
 
 // The first child: the row at `depth` takes its least candidate, or is left out.
@@ -82,7 +73,7 @@ pub fn descend(
     ensures { λ r. ⌜ ((P : Problem) → SoundProblem P → P .old .order ≡ order → AtNode P (now (path .entry)) depth pairs (now (workspace .entry)) → Words P (now (path .entry)) depth (now (workspace .entry))
         → Descends P (now (path .entry)) depth (now (workspace .entry)) r (now (path .exit))) ⌝ }
 {
-    match bitset::least_member(workspace[64 * pairs + depth]) {
+    match bitset::least_member(words::level_word(workspace, pairs, depth)) {
         Least::Member(v) => {
             path[depth] = (v % 256) as u8;
             Place {
@@ -121,7 +112,7 @@ pub fn retreat(
         let last = path[row];
         if last != 255 {
             let before = pairs - 1;
-            match bitset::least_above(workspace[64 * before + row], last as usize) {
+            match bitset::least_above(words::level_word(workspace, before, row), last as usize) {
                 Least::Member(v) => {
                     path[row] = (v % 256) as u8;
                     return Place {
@@ -258,7 +249,7 @@ pub fn rebuild(
     while row + 1 < depth {
         let value = path[row];
         if value != 255 {
-            words::refine(order, edges, masks, workspace, row, pairs, value as usize);
+            words::refine(edges, masks, workspace, row, pairs, value as usize);
             pairs += 1;
         }
         row += 1;

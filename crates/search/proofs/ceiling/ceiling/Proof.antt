@@ -32,16 +32,16 @@ same-length c = search needs
 
 returns-2 : tie.Need-returns-2
 returns-2 c =
-    let own = c .before .before .before .before .before .upper-bound in
-    let open-test = c .before .before .before .before .before .before .before in
+    let own = c .before .before .before .before .before .before .before .upper-bound in
+    let open-test = c .before .before .before .before .before .before .before .before .before in
     let cutoff = open-test .before .before .before .before .args .walk .cutoff in
-    let top-is : c .before .before .if2 .top ≡ max cutoff (1 + own .result) =
-    ⊎-elim (λ w. omega arith) (λ w. omega arith) (c .before .before .if2 .came) in
+    let top-is : c .before .before .before .before .if2 .top ≡ max cutoff (1 + own .result) =
+    ⊎-elim (λ w. omega arith) (λ w. omega arith) (c .before .before .before .before .if2 .came) in
     λ P minimum incumbent setting ready.
     let words = own .ensures .1 .0 P setting (ready .node) in
     let node = node-kept setting (ready .node) (own .kept .1 .1 .1 .1 .0) words in
     let greatest = ceiling-open setting ready (open-test .if1 .left) (own .ensures .0 P setting (ready .node)) in
-    omega (arith, c .later-top .ensures P setting node)
+    omega (arith, c .before .before .later-top .ensures P setting node)
 
 pub ceiling-spec : {M : Type 1} → statement M
 ceiling-spec =

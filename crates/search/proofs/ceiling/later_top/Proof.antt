@@ -1,6 +1,7 @@
--- `search::ceiling::later_top` meets its contract: level by level the later siblings are counted or passed over (`LaterTop`).
+-- `search::ceiling::later_top` meets its contract: level by level the later siblings are counted or passed over (`LaterTop`). A level's
+-- bounds are made in the level after it, which is not needed any more.
 -- Assumes nothing.
-use mathlib.Core.Path.{_≡_, refl}
+use mathlib.Core.Path.{_≡_}
 use Prim.Native.Nat.{ℕ, _+_, _-_}
 use native.Mathlib.Omega.{arith}
 use lib.ListN.{take}
@@ -12,11 +13,11 @@ use Rattle.search.proofs.ceiling.later_top.Statement.{statement}
 use Rattle.search.proofs.ceiling.later_top.Tie as tie
 
 abbrev Inv-loop : tie.InvT-loop
-Inv-loop order edges masks path workspace depth pairs least top₀ k₀ left₀ top k left =
-    LevelsHead order edges masks path workspace depth pairs least k left top
+Inv-loop order edges masks path workspace₀ depth pairs least top₀ k₀ left₀ workspace top k left =
+    LevelsHead order edges masks path workspace₀ workspace depth pairs least k left top
 
 abbrev μ-loop : tie.MeasureT-loop
-μ-loop order edges masks path workspace depth pairs least top₀ k₀ left₀ top k left = k
+μ-loop order edges masks path workspace₀ depth pairs least top₀ k₀ left₀ workspace top k left = k
 
 -- the function's entry, from the loop's head
 abbrev entry : tie.At-loop Inv-loop μ-loop → tie.Start Inv-loop μ-loop
@@ -54,29 +55,28 @@ add-limit c =
 
 count-open-requires : tie.Need-count-open-requires Inv-loop μ-loop
 count-open-requires c κs =
-    let head = c .before .before .before in
+    let head = c .before .before .before .before in
     let start = entry head in
-    omega (arith, pairs-left c, start .pre, size-take-max (start .args .path .now) (row head))
+    omega (arith, pairs-left (c .before), start .pre, head .loop .inv .kept .words, size-take-max (start .args .path .now) (row head))
 
 add-limit-2 : tie.Need-add-limit-2 Inv-loop μ-loop
 add-limit-2 c =
-    let head = c .before .before .before .before in
+    let head = c .before .before .before .before .before in
     let start = entry head in
-    let a = start .args in
-    let few = openRows-max (a .order) (row head) (head .loop .left - 1) (a .workspace .now) in
-    omega (arith, pairs-left (c .before), start .pre, c .count-open .ensures, size-take-max (a .path .now) (row head))
+    let few = openRows-max (row head) (head .loop .left - 1) (head .loop .workspace) in
+    omega (arith, pairs-left (c .before .before), start .pre, c .count-open .ensures, size-take-max (start .args .path .now) (row head))
 
 cast-row-top : tie.Need-cast-row-top Inv-loop μ-loop
 cast-row-top c =
-    let head = c .before .before .before .before .before in
-    omega (arith, entry-max (entry head .pre) (row head) (omega arith) (c .before .before .if1 .taken))
+    let head = c .before .before .before .before .before .before .before in
+    omega (arith, entry-max (entry head .pre) (row head) (omega arith) (c .before .before .before .before .if1 .taken))
 
 row-top-requires : tie.Need-row-top-requires Inv-loop μ-loop
 row-top-requires c κs =
-    let head = c .before .before .before .before .before in
+    let head = c .before .before .before .before .before .before .before in
     let pre = entry head .pre in (
-      bounds-shorter pre (omega arith) (omega (arith, pairs-left (c .before .before))) refl,
-      (omega arith, entry-max pre (row head) (omega arith) (c .before .before .if1 .taken)),
+      bounds-shorter pre (omega arith) (omega (arith, pairs-left (c .before .before .before .before))) (head .loop .inv .kept .words),
+      (omega arith, entry-max pre (row head) (omega arith) (c .before .before .before .before .if1 .taken)),
     )
 
 loop-less : tie.Need-loop-less Inv-loop μ-loop
@@ -84,26 +84,28 @@ loop-less c = search needs
 
 loop-again : tie.Need-loop-again Inv-loop μ-loop
 loop-again c =
-    let head = c .before .before .before .before .before .before .before in
-    let mapped = c .before .before .before .before .if1 .taken in
-    level-counted (entry head .pre) (row head) (omega arith) (head .loop .inv) mapped (c .before .row-top .ensures) (omega (arith, c .if3 .taken))
+    let head = c .before .before .before .before .before .before .before .before .before .before .before in
+    let mapped = c .before .before .before .before .before .before .before .before .if1 .taken in
+    let own = c .before .before .before .row-top .ensures in
+    level-counted (entry head .pre) (row head) (omega arith) (head .loop .inv) mapped (own .0) (own .1) (omega (arith, c .if3 .taken))
 
 loop-less-2 : tie.Need-loop-less-2 Inv-loop μ-loop
 loop-less-2 c = search needs
 
 loop-again-2 : tie.Need-loop-again-2 Inv-loop μ-loop
 loop-again-2 c =
-    let head = c .before .before .before .before .before .before .before in
-    let mapped = c .before .before .before .before .if1 .taken in
-    level-counted (entry head .pre) (row head) (omega arith) (head .loop .inv) mapped (c .before .row-top .ensures) (omega (arith, c .if3 .left))
+    let head = c .before .before .before .before .before .before .before .before .before .before .before in
+    let mapped = c .before .before .before .before .before .before .before .before .if1 .taken in
+    let own = c .before .before .before .row-top .ensures in
+    level-counted (entry head .pre) (row head) (omega arith) (head .loop .inv) mapped (own .0) (own .1) (omega (arith, c .if3 .left))
 
 loop-less-3 : tie.Need-loop-less-3 Inv-loop μ-loop
 loop-less-3 c = search needs
 
 loop-again-3 : tie.Need-loop-again-3 Inv-loop μ-loop
 loop-again-3 c =
-    let head = c .before .before .before .before .before in
-    let mapped = c .before .before .if1 .taken in
+    let head = c .before .before .before .before .before .before in
+    let mapped = c .before .before .before .if1 .taken in
     level-skipped (entry head .pre) (row head) (omega arith) (head .loop .inv) mapped (omega (arith, c .if2 .left, c .before .count-open .ensures))
 
 loop-less-4 : tie.Need-loop-less-4 Inv-loop μ-loop
@@ -113,6 +115,9 @@ loop-again-4 : tie.Need-loop-again-4 Inv-loop μ-loop
 loop-again-4 c =
     let head = c .before .before .before in
     level-left-out (entry head .pre) (row head) (omega arith) (head .loop .inv) (c .if1 .left)
+
+same-length : tie.Need-same-length Inv-loop μ-loop
+same-length c = search needs
 
 returns : tie.Need-returns Inv-loop μ-loop
 returns c = levels-all (entry (c .before) .pre) (omega arith) (c .before .loop .inv)
@@ -140,4 +145,5 @@ later-top-spec =
     loop-again-3
     loop-less-4
     loop-again-4
+    same-length
     returns)

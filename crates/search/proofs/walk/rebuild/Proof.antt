@@ -38,8 +38,7 @@ refine-requires c κs =
       bounds .edges-length,
       bounds .masks-length,
       omega (arith, bounds .room, l .inv .kept-length),
-      bounds .order-max,
-      omega (arith, bounds .depth-max),
+      omega (arith, bounds .depth-max, bounds .order-max),
       omega (arith, l .inv .pairs-are, size-take-max (start .args .path .now) (l .row)),
       entry-max bounds (l .row) (omega arith) (c .before .if1 .taken),
     )

@@ -7,6 +7,7 @@ use Prim.Native.Nat.{ℕ, _-_, _≤_, _<_}
 use native.Mathlib.Omega.{arith}
 use lib.ListN.{length, getD}
 use borrow.Author.Needs.{needs}
+use Rattle.bitset.specs.Least.{leastAbove}
 use Rattle.mapping.specs.Common.{unmapped}
 use Rattle.search.proofs.NextSibling.{Passed, passed-none, passed-more, pairs-before, retreat-ends, sibling-taken, sibling-left-out}
 use Rattle.search.proofs.walk.retreat.Statement.{statement}
@@ -55,17 +56,8 @@ last-pair c =
 sub-before : tie.Need-sub-before Inv-loop μ-loop
 sub-before c = last-pair c .0
 
-mul-least-above : tie.Need-mul-least-above Inv-loop μ-loop
-mul-least-above c = omega (arith, last-pair c)
-
-add-least-above : tie.Need-add-least-above Inv-loop μ-loop
-add-least-above c = omega (arith, last-pair c)
-
-mul-least-above-2 : tie.Need-mul-least-above-2 Inv-loop μ-loop
-mul-least-above-2 c = omega (arith, last-pair c)
-
-shared-slice-read-least-above : tie.Need-shared-slice-read-least-above Inv-loop μ-loop
-shared-slice-read-least-above c = omega (arith, last-pair (c .before))
+level-word-requires : tie.Need-level-word-requires Inv-loop μ-loop
+level-word-requires c κs = omega (arith, last-pair c)
 
 cast-least-above : tie.Need-cast-least-above Inv-loop μ-loop
 cast-least-above c =
@@ -88,7 +80,7 @@ returns : tie.Need-returns Inv-loop μ-loop
 returns c =
     let turn = c .before .before .before .before .before in
     let l = turn .before .before .before .loop in
-    let found = sym (c .before .before .before .least-above .ensures) ∙ c .before .v .given .1 in
+    let found = ap (λ (w : ℕ). leastAbove w (getD (l .path) (l .k - 1) 0)) (sym (c .before .before .before .before .level-word .ensures)) ∙ sym (c .before .before .before .least-above .ensures) ∙ c .before .v .given .1 in
     λ P sound order node. rw (l .inv .1)
     (sibling-taken sound node (l .k - 1) (l .inv .2) (omega arith) (last-mapped turn) (rw (l .inv .1) at found))
 
@@ -102,7 +94,7 @@ returns-2 : tie.Need-returns-2 Inv-loop μ-loop
 returns-2 c =
     let turn = c .before .before .before .before in
     let l = turn .before .before .before .loop in
-    let found = sym (c .before .before .least-above .ensures) ∙ c .enum-told .given .1 in
+    let found = ap (λ (w : ℕ). leastAbove w (getD (l .path) (l .k - 1) 0)) (sym (c .before .before .before .level-word .ensures)) ∙ sym (c .before .before .least-above .ensures) ∙ c .enum-told .given .1 in
     λ P sound order node. rw (l .inv .1)
     (sibling-left-out sound node (l .k - 1) (l .inv .2) (omega arith) (last-mapped turn) (rw (l .inv .1) at found))
 
@@ -131,10 +123,7 @@ retreat-spec =
     sub-row
     element-copy-out-last
     sub-before
-    mul-least-above
-    add-least-above
-    mul-least-above-2
-    shared-slice-read-least-above
+    level-word-requires
     cast-least-above
     least-above-requires
     enum-known-v

@@ -1,80 +1,46 @@
--- `search::words::count_open` meets its contract: the rows passed that have a candidate are counted (`OpenRows`).
+-- `search::words::count_open` meets its contract: the size of a level's set from a row on is the count of its rows from there.
 -- Assumes nothing.
-use mathlib.Core.Path.{sym, _∙_}
-use mathlib.Core.Bool.{not, _&&_}
-use mathlib.Core.Logic.{⊎-elim}
-use Prim.Native.Nat.{_+_, _-_, _*_, _≤_}
-use native.Mathlib.Omega.{arith}
-use lib.Dec.{leb, eqb}
-use lib.ListN.{getD}
+use mathlib.Core.Path.{_≡_, ap, _∙_}
+use Prim.Native.Nat.{ℕ}
 use borrow.Author.Needs.{needs}
-use borrow.Author.Tests.{le-leb, lt-leb, not-true, not-false}
-use Rattle.search.proofs.OpenRows.{CountedTo, counted-none, counted-more, counted-skip, counted-all}
+use Rattle.bitset.specs.Count.{size}
+use Rattle.bitset.proofs.CountBelow.{countBelow-congr}
+use Rattle.bitset.proofs.MembersFrom.{member-from}
+use Rattle.search.specs.Words.{openSet}
 use Rattle.search.proofs.words.count_open.Statement.{statement}
 use Rattle.search.proofs.words.count_open.Tie as tie
 
-abbrev Inv-loop : tie.InvT-loop
-Inv-loop order workspace depth pairs count₀ r₀ count r =
-    (depth ≤ r) × CountedTo order (λ k. leb depth k && not (eqb (getD workspace (64 * pairs + k) 0) 0)) count r
+add-members-from : tie.Need-add-members-from
+add-members-from c = search needs
 
-abbrev μ-loop : tie.MeasureT-loop
-μ-loop order workspace depth pairs count₀ r₀ count r = order - r
+mul-members-from : tie.Need-mul-members-from
+mul-members-from c = search needs
 
-loop-holds : tie.Need-loop-holds Inv-loop μ-loop
-loop-holds c = (omega arith, counted-none _ _ _ (λ k h. rw (lt-leb _ _ h)))
+shared-slice-read-members-from : tie.Need-shared-slice-read-members-from
+shared-slice-read-members-from c = search needs
 
-mul-is-empty : tie.Need-mul-is-empty Inv-loop μ-loop
-mul-is-empty c = search needs
+members-from-requires : tie.Need-members-from-requires
+members-from-requires c κs = search needs
 
-add-is-empty : tie.Need-add-is-empty Inv-loop μ-loop
-add-is-empty c = search needs
+size-requires : tie.Need-size-requires
+size-requires c κs = search needs
 
-mul-is-empty-2 : tie.Need-mul-is-empty-2 Inv-loop μ-loop
-mul-is-empty-2 c = search needs
+cast-result : tie.Need-cast-result
+cast-result c = search needs
 
-shared-slice-read-is-empty : tie.Need-shared-slice-read-is-empty Inv-loop μ-loop
-shared-slice-read-is-empty c = search needs
-
-is-empty-requires : tie.Need-is-empty-requires Inv-loop μ-loop
-is-empty-requires c κs = search needs
-
-add-count : tie.Need-add-count Inv-loop μ-loop
-add-count c = search needs
-
-add-r : tie.Need-add-r Inv-loop μ-loop
-add-r c = search needs
-
-loop-less : tie.Need-loop-less Inv-loop μ-loop
-loop-less c = search needs
-
-loop-again : tie.Need-loop-again Inv-loop μ-loop
-loop-again c =
-    let l = c .before .before .before .before .loop in
-    let h = c .before .before .before .loop-test .taken in (
-      omega arith,
-      ⊎-elim
-          (λ w. rw (w .1) (counted-more _ _ _ _ h (rw (le-leb _ _ (l .inv .0), sym (c .before .is-empty .ensures) ∙ not-true _ (w .0 .taken))) (l .inv .1)))
-          (λ w. rw (w .1) (counted-skip _ _ _ _ h (rw (le-leb _ _ (l .inv .0), sym (c .before .is-empty .ensures) ∙ not-false _ (w .0 .left))) (l .inv .1)))
-          (c .if1 .came),
-    )
-
-returns : tie.Need-returns Inv-loop μ-loop
-returns c = counted-all _ _ _ _ (c .loop-test .left) (c .before .loop .inv .1)
+returns : tie.Need-returns
+returns c =
+    let a = c .before .before .before .before .args in
+    c .size .ensures ∙ ap size (c .before .members-from .ensures) ∙ countBelow-congr 64 _ _ (λ r h. member-from (openSet (a .pairs) (a .workspace .now)) (a .depth) r h)
 
 pub count-open-spec : {M : Type 1} → statement M
 count-open-spec =
     tie.close
     (tie.spec
-    Inv-loop
-    μ-loop
-    loop-holds
-    mul-is-empty
-    add-is-empty
-    mul-is-empty-2
-    shared-slice-read-is-empty
-    is-empty-requires
-    add-count
-    add-r
-    loop-less
-    loop-again
+    add-members-from
+    mul-members-from
+    shared-slice-read-members-from
+    members-from-requires
+    size-requires
+    cast-result
     returns)

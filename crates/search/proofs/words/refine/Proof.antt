@@ -1,49 +1,84 @@
--- `search::words::refine` meets its contract: the words of the rows passed are stored, nothing else changed (`RowStores`),
--- and those that are not empty are counted (`OpenRows`). What is read, at the parent's level, is never written.
+-- `search::words::refine` meets its contract: the rows left are met and stored one by one, and their set at the end (`RefineTurn`). What is
+-- read, at the parent's level, is never written.
 -- Assumes nothing.
-use mathlib.Core.Path.{_≡_, ap, _∙_, sym}
-use mathlib.Core.Bool.{not, _&&_}
+use mathlib.Core.Path.{_≡_, ap, sym, _∙_}
 use mathlib.Core.Logic.{⊎-elim, inl}
-use Prim.Native.Nat.{ℕ, _+_, _-_, _*_, _≤_, _<_}
+use Prim.Native.Nat.{ℕ, _+_, _*_, _<_}
 use native.Mathlib.Omega.{arith}
-use lib.Dec.{ltb, eqb}
 use lib.ListN.{getD}
 use borrow.Author.Needs.{needs}
-use borrow.Author.Tests.{lt-ltb, le-ltb, not-true, not-false}
+use borrow.Author.Tests.{not-true, not-false}
 use Rattle.bitset.specs.Members.{meetOf}
+use Rattle.bitset.specs.Least.{leastMember}
+use Rattle.bitset.specs.declared.Least.the-variants.{Member}
 use Rattle.graph.specs.Graph.{place}
-use Rattle.search.specs.Words.{metWord}
-use Rattle.search.proofs.OpenRows.{CountedTo, counted-none, counted-more, counted-skip, counted-all, meetRows-refined}
-use Rattle.search.proofs.RowStores.{FilledTo, filled-none, filled-more, filled-refined}
+use Rattle.search.proofs.RefineTurn.{metPlace, RefinedTo, refined-none, next-row, left-falls, refined-more, refined-skip, refined-all, refined-count, refined-last}
 use Rattle.search.proofs.words.refine.Statement.{statement}
 use Rattle.search.proofs.words.refine.Tie as tie
 
 abbrev Inv-loop : tie.InvT-loop
-Inv-loop order edges masks workspace₀ row pairs value count₀ r₀ workspace count r =
-    (r ≤ order) × FilledTo (metWord edges masks row pairs value workspace₀) (64 * (pairs + 1)) (row + 1) r workspace₀ workspace
-    × CountedTo order (λ k. ltb row k && not (eqb (metWord edges masks row pairs value workspace₀ k) 0)) count r
+Inv-loop edges masks workspace₀ row pairs value rest₀ rows₀ workspace rest rows =
+    RefinedTo edges masks row pairs value workspace₀ workspace rest rows
 
 abbrev μ-loop : tie.MeasureT-loop
-μ-loop order edges masks workspace₀ row pairs value count₀ r₀ workspace count r = order - r
+μ-loop edges masks workspace₀ row pairs value rest₀ rows₀ workspace rest rows = rest
 
-add-r : tie.Need-add-r Inv-loop μ-loop
-add-r c = search needs
+-- the function's entry, from the loop's head
+abbrev entry : tie.At-loop Inv-loop μ-loop → tie.Start Inv-loop μ-loop
+entry c = c .before .before .before .before .before .before .before
+
+-- the row that was found
+found : (c : tie.After-known-told Inv-loop μ-loop) → leastMember (c .before .before .before .before .loop .rest) ≡ Member (c .before .r .given .0 .0)
+found c = sym (c .before .before .before .least-member .ensures) ∙ c .before .r .given .1
+
+-- it comes after `row`, below 64
+inside : (c : tie.After-known-told Inv-loop μ-loop)
+    → (entry (c .before .before .before .before) .args .row < c .before .r .given .0 .0) × (c .before .r .given .0 .0 < 64)
+inside c =
+    let next = next-row (c .before .before .before .before .loop .inv) (found c) in
+    (next .0, next .1)
+
+returns : tie.Need-returns Inv-loop μ-loop
+returns c =
+    let pre = c .before .before .before .before .pre in
+    refined-last (omega (arith, pre)) (omega (arith, pre)) (c .if1 .taken)
+
+add-members-from : tie.Need-add-members-from Inv-loop μ-loop
+add-members-from c = search needs
+
+mul-members-from : tie.Need-mul-members-from Inv-loop μ-loop
+mul-members-from c = search needs
+
+slice-read-members-from : tie.Need-slice-read-members-from Inv-loop μ-loop
+slice-read-members-from c = search needs
+
+add-members-from-2 : tie.Need-add-members-from-2 Inv-loop μ-loop
+add-members-from-2 c = search needs
+
+members-from-requires : tie.Need-members-from-requires Inv-loop μ-loop
+members-from-requires c κs = search needs
 
 loop-holds : tie.Need-loop-holds Inv-loop μ-loop
-loop-holds c = (omega arith, filled-none _ _ _ _, counted-none _ _ _ (λ k h. rw (le-ltb (c .before .before .before .args .row) k (omega arith))))
+loop-holds c = rw (c .members-from .ensures) refined-none
+
+least-member-requires : tie.Need-least-member-requires Inv-loop μ-loop
+least-member-requires c κs = search needs
+
+enum-known-r : tie.Need-enum-known-r Inv-loop μ-loop
+enum-known-r c = search needs
 
 mul-label : tie.Need-mul-label Inv-loop μ-loop
 mul-label c = search needs
 
 add-label : tie.Need-add-label Inv-loop μ-loop
-add-label c = search needs
+add-label c = omega (arith, inside c)
 
 shared-slice-read-label : tie.Need-shared-slice-read-label Inv-loop μ-loop
-shared-slice-read-label c = search needs
+shared-slice-read-label c = omega (arith, inside (c .before))
 
 -- an edge's label is a byte
 label-byte : (c : tie.After-shared-slice-known3 Inv-loop μ-loop)
-    → getD (c .before .before .before .before .before .before .args .edges .now) (64 * c .before .before .before .before .before .before .args .row + c .before .before .loop .r) 0 < 256
+    → getD (entry (c .before .before .before .before .before) .args .edges .now) (64 * entry (c .before .before .before .before .before) .args .row + c .before .before .r .given .0 .0) 0 < 256
 label-byte c = c .shared-slice-known3 .given _ .fits
 
 cast-label : tie.Need-cast-label Inv-loop μ-loop
@@ -53,25 +88,25 @@ mul-meet : tie.Need-mul-meet Inv-loop μ-loop
 mul-meet c = search needs
 
 add-meet : tie.Need-add-meet Inv-loop μ-loop
-add-meet c = search needs
+add-meet c = omega (arith, inside (c .before))
 
 mul-meet-2 : tie.Need-mul-meet-2 Inv-loop μ-loop
-mul-meet-2 c = search needs
+mul-meet-2 c = omega (arith, inside (c .before))
 
 slice-read-meet : tie.Need-slice-read-meet Inv-loop μ-loop
-slice-read-meet c = search needs
+slice-read-meet c = omega (arith, inside (c .before .before))
 
 mul-meet-3 : tie.Need-mul-meet-3 Inv-loop μ-loop
 mul-meet-3 c = search needs
 
 add-meet-2 : tie.Need-add-meet-2 Inv-loop μ-loop
-add-meet-2 c = omega (arith, label-byte (c .before))
+add-meet-2 c = omega (arith, inside (c .before .before), label-byte (c .before))
 
 mul-meet-4 : tie.Need-mul-meet-4 Inv-loop μ-loop
-mul-meet-4 c = omega (arith, label-byte (c .before))
+mul-meet-4 c = omega (arith, inside (c .before .before), label-byte (c .before))
 
 shared-slice-read-meet : tie.Need-shared-slice-read-meet Inv-loop μ-loop
-shared-slice-read-meet c = omega (arith, label-byte (c .before .before))
+shared-slice-read-meet c = omega (arith, inside (c .before .before .before), label-byte (c .before .before))
 
 meet-requires : tie.Need-meet-requires Inv-loop μ-loop
 meet-requires c κs = search needs
@@ -83,52 +118,74 @@ add-workspace : tie.Need-add-workspace Inv-loop μ-loop
 add-workspace c = search needs
 
 add-workspace-2 : tie.Need-add-workspace-2 Inv-loop μ-loop
-add-workspace-2 c = search needs
+add-workspace-2 c = omega (arith, inside (c .before .before .before .before))
 
 mul-workspace-2 : tie.Need-mul-workspace-2 Inv-loop μ-loop
-mul-workspace-2 c = search needs
+mul-workspace-2 c = omega (arith, inside (c .before .before .before .before))
 
 slice-write-workspace : tie.Need-slice-write-workspace Inv-loop μ-loop
-slice-write-workspace c = search needs
+slice-write-workspace c = omega (arith, inside (c .before .before .before .before))
 
 is-empty-requires : tie.Need-is-empty-requires Inv-loop μ-loop
 is-empty-requires c κs = search needs
 
-add-count : tie.Need-add-count Inv-loop μ-loop
-add-count c = search needs
+with-requires : tie.Need-with-requires Inv-loop μ-loop
+with-requires c κs = search needs
 
-add-r-2 : tie.Need-add-r-2 Inv-loop μ-loop
-add-r-2 c = search needs
+without-least-requires : tie.Need-without-least-requires Inv-loop μ-loop
+without-least-requires c κs = search needs
 
 loop-less : tie.Need-loop-less Inv-loop μ-loop
-loop-less c = search needs
+loop-less c = rw (c .without-least .ensures) (left-falls (c .before .before .before .before .before .before .before .before .before .before .before .loop .inv) (found (c .before .before .before .before .before .before .before)))
 
 loop-again : tie.Need-loop-again Inv-loop μ-loop
 loop-again c =
-    let l = c .before .before .before .before .before .before .before .loop in
-    let h = c .before .before .before .before .before .before .loop-test .taken in
-    let a = c .before .before .before .before .before .before .before .before .before .before .before .args in
-    let mask = getD (a .masks .now) (256 * a .value + getD (a .edges .now) (place (a .row) (l .r)) 0) 0 in
-    let later : a .row < l .r = omega arith in
-    let word : c .before .before .meet .result ≡ metWord (a .edges .now) (a .masks .now) (a .row) (a .pairs) (a .value) (a .workspace .now) (l .r) =
-    c .before .before .meet .ensures ∙ ap (λ (s : ℕ). meetOf s mask) (l .inv .1 .kept (64 * a .pairs + l .r) (inl (omega arith))) in (
-      omega arith,
-      filled-more _ _ _ _ _ _ _ _ (l .inv .1) (omega arith) (omega arith) word,
-      ⊎-elim
-          (λ w. rw (w .1) (counted-more _ _ _ _ h (rw (lt-ltb _ _ later, ← word, sym (c .before .is-empty .ensures) ∙ not-true _ (w .0 .taken))) (l .inv .2)))
-          (λ w. rw (w .1) (counted-skip _ _ _ _ h (rw (lt-ltb _ _ later, ← word, sym (c .before .is-empty .ensures) ∙ not-false _ (w .0 .left))) (l .inv .2)))
-          (c .if1 .came),
-    )
+    let told = c .before .before .before .before .before .before .before in
+    let head = told .before .before .before .before in
+    let a = entry head .args in
+    let r = told .before .r .given .0 .0 in
+    let inv = head .loop .inv in
+    let next = next-row inv (found told) in
+    let mask = getD (a .masks .now) (256 * a .value + getD (a .edges .now) (place (a .row) r) 0) 0 in
+    let word : c .before .before .before .meet .result ≡ metPlace (a .edges .now) (a .masks .now) (a .row) (a .pairs) (a .value) (a .workspace .now) r =
+    c .before .before .before .meet .ensures ∙ ap (λ (s : ℕ). meetOf s mask) (inv .level .kept (64 * a .pairs + r) (inl (omega arith))) in
+    let tested = c .before .before .is-empty .ensures in
+    rw (c .without-least .ensures)
+    (⊎-elim
+    (λ w. rw (w .2, w .1 .ensures) (refined-more inv (found told) (omega arith) (omega (arith, entry head .pre)) word (sym tested ∙ not-true _ (w .0 .taken))))
+    (λ w. rw (w .1) (refined-skip inv (found told) (omega arith) (omega (arith, entry head .pre)) word (sym tested ∙ not-false _ (w .0 .left))))
+    (c .before .if2 .came))
+
+enum-told : tie.Need-enum-told Inv-loop μ-loop
+enum-told c = search needs
+
+add-workspace-3 : tie.Need-add-workspace-3 Inv-loop μ-loop
+add-workspace-3 c = search needs
+
+mul-workspace-3 : tie.Need-mul-workspace-3 Inv-loop μ-loop
+mul-workspace-3 c = search needs
+
+slice-write-workspace-2 : tie.Need-slice-write-workspace-2 Inv-loop μ-loop
+slice-write-workspace-2 c = search needs
+
+size-requires : tie.Need-size-requires Inv-loop μ-loop
+size-requires c κs = search needs
+
+cast-result : tie.Need-cast-result Inv-loop μ-loop
+cast-result c = search needs
 
 same-length : tie.Need-same-length Inv-loop μ-loop
 same-length c = search needs
 
-returns : tie.Need-returns Inv-loop μ-loop
-returns c =
-    let l = c .before .loop in
-    let all : l .r ≡ c .before .before .before .before .before .args .order = omega arith in
-    let refined = filled-refined _ _ _ _ _ _ _ _ _ all (l .inv .1) in
-    (refined, counted-all _ _ _ _ (c .loop-test .left) (l .inv .2) ∙ meetRows-refined _ _ _ _ _ _ _ _ refined)
+returns-2 : tie.Need-returns-2 Inv-loop μ-loop
+returns-2 c =
+    let head = c .before .before .before .before in
+    let pre = entry head .pre in
+    let none = sym (c .before .before .before .least-member .ensures) ∙ c .before .enum-told .given .1 in
+    let last : 4097 + entry head .args .pairs ≡ 4096 + (entry head .args .pairs + 1) = omega arith in
+    let inner : entry head .args .pairs + 1 < 64 = omega arith in
+    let room = pre .2 in
+    (rw last (refined-all (head .loop .inv) none inner room), c .size .ensures ∙ refined-count (head .loop .inv) none inner room)
 
 pub refine-spec : {M : Type 1} → statement M
 refine-spec =
@@ -136,8 +193,15 @@ refine-spec =
     (tie.spec
     Inv-loop
     μ-loop
-    add-r
+    returns
+    add-members-from
+    mul-members-from
+    slice-read-members-from
+    add-members-from-2
+    members-from-requires
     loop-holds
+    least-member-requires
+    enum-known-r
     mul-label
     add-label
     shared-slice-read-label
@@ -157,9 +221,15 @@ refine-spec =
     mul-workspace-2
     slice-write-workspace
     is-empty-requires
-    add-count
-    add-r-2
+    with-requires
+    without-least-requires
     loop-less
     loop-again
+    enum-told
+    add-workspace-3
+    mul-workspace-3
+    slice-write-workspace-2
+    size-requires
+    cast-result
     same-length
-    returns)
+    returns-2)

@@ -1,26 +1,24 @@
--- `search::words::root_words` meets its contract: the words of the rows passed are stored, and nothing else changed (`RowStores`).
+-- `search::words::root_words` meets its contract: row by row the words are stored, and the rows that have one are gathered (`RootTurn`).
 -- Assumes nothing.
-use mathlib.Core.Path.{_≡_, sym}
+use mathlib.Core.Path.{_≡_, sym, _∙_}
+use mathlib.Core.Logic.{⊎-elim}
 use Prim.Native.Nat.{_-_, _≤_}
-use native.Mathlib.Nat.{zero-add}
 use native.Mathlib.Omega.{arith}
-use lib.Dec.{eqb}
-use lib.ListN.{getD}
 use borrow.Author.Needs.{needs}
-use Rattle.bitset.specs.Members.{setOf}
-use Rattle.search.proofs.RowStores.{FilledTo, filled-none, filled-more, filled-root}
+use borrow.Author.Tests.{not-true, not-false}
+use Rattle.search.proofs.RootTurn.{RootTo, root-none, root-more, root-skip, root-all}
 use Rattle.search.proofs.words.root_words.Statement.{statement}
 use Rattle.search.proofs.words.root_words.Tie as tie
 
 abbrev Inv-loop : tie.InvT-loop
-Inv-loop old-order old-labels new-order new-labels workspace₀ r₀ workspace r =
-    (r ≤ old-order) × FilledTo (λ k. setOf new-order (λ v. eqb (getD old-labels k 0) (getD new-labels v 0))) 0 0 r workspace₀ workspace
+Inv-loop old-order old-labels new-order new-labels workspace₀ rows₀ r₀ workspace rows r =
+    (r ≤ old-order) × RootTo old-labels new-order new-labels workspace₀ workspace r rows
 
 abbrev μ-loop : tie.MeasureT-loop
-μ-loop old-order old-labels new-order new-labels workspace₀ r₀ workspace r = old-order - r
+μ-loop old-order old-labels new-order new-labels workspace₀ rows₀ r₀ workspace rows r = old-order - r
 
 loop-holds : tie.Need-loop-holds Inv-loop μ-loop
-loop-holds c = (search needs, filled-none _ _ _ _)
+loop-holds c = let a = c .before .before .before .args in (search needs, root-none (a .old-labels .now) (a .new-order) (a .new-labels .now) (a .workspace .now))
 
 shared-slice-read-label-word : tie.Need-shared-slice-read-label-word Inv-loop μ-loop
 shared-slice-read-label-word c = search needs
@@ -34,6 +32,12 @@ mul-workspace c = search needs
 slice-write-workspace : tie.Need-slice-write-workspace Inv-loop μ-loop
 slice-write-workspace c = search needs
 
+is-empty-requires : tie.Need-is-empty-requires Inv-loop μ-loop
+is-empty-requires c κs = search needs
+
+with-requires : tie.Need-with-requires Inv-loop μ-loop
+with-requires c κs = search needs
+
 add-r : tie.Need-add-r Inv-loop μ-loop
 add-r c = search needs
 
@@ -42,8 +46,19 @@ loop-less c = search needs
 
 loop-again : tie.Need-loop-again Inv-loop μ-loop
 loop-again c =
-    let l = c .before .before .before .loop in
-    (omega arith, filled-more _ _ _ _ _ _ _ _ (l .inv .1) (sym (zero-add (l .r))) (omega arith) (c .label-word .ensures))
+    let l = c .before .before .before .before .before .loop in
+    let a = c .before .before .before .before .before .before .before .before .before .args in
+    let word = c .before .before .label-word .ensures in
+    let tested = c .before .is-empty .ensures in (
+      omega arith,
+      ⊎-elim
+          (λ w. rw (w .2, w .1 .ensures) (root-more (a .old-labels .now) (a .new-order) (a .new-labels .now) (a .workspace .now) (l .inv .1) (omega arith) (omega arith) word (sym tested ∙ not-true _ (w .0 .taken))))
+          (λ w. rw (w .1) (root-skip (a .old-labels .now) (a .new-order) (a .new-labels .now) (a .workspace .now) (l .inv .1) (omega arith) (omega arith) word (sym tested ∙ not-false _ (w .0 .left))))
+          (c .if1 .came),
+    )
+
+slice-write-workspace-2 : tie.Need-slice-write-workspace-2 Inv-loop μ-loop
+slice-write-workspace-2 c = search needs
 
 same-length : tie.Need-same-length Inv-loop μ-loop
 same-length c = search needs
@@ -51,8 +66,8 @@ same-length c = search needs
 returns : tie.Need-returns Inv-loop μ-loop
 returns c =
     let l = c .before .loop in
-    let all : l .r ≡ c .before .before .before .before .before .args .old-order = omega arith in
-    filled-root _ _ _ _ _ _ _ all (l .inv .1)
+    let a = c .before .before .before .before .before .args in
+    root-all (a .old-labels .now) (a .new-order) (a .new-labels .now) (a .workspace .now) (omega arith) (omega arith) (omega arith) (l .inv .1)
 
 pub root-words-spec : {M : Type 1} → statement M
 root-words-spec =
@@ -65,8 +80,11 @@ root-words-spec =
     label-word-requires
     mul-workspace
     slice-write-workspace
+    is-empty-requires
+    with-requires
     add-r
     loop-less
     loop-again
+    slice-write-workspace-2
     same-length
     returns)
