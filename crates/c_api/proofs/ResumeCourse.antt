@@ -1,4 +1,4 @@
--- How a resumed search can go, by the number that it tells: refused with both lent buffers as they were, or accepted with the next checkpoint saved.
+-- How a resumed search goes: each refusal has a number above 0, and an accepted call is always saved.
 use mathlib.Core.Path.{_≡_, refl, ap, _∙_}
 use mathlib.Core.Bool.{Bool, true, false, cond}
 use mathlib.Core.List.{List}
@@ -14,13 +14,14 @@ use Rattle.search.specs.declared.Checkpoint.{Checkpoint}
 use Rattle.search.specs.Call.{Called, searchCall}
 use Rattle.checkpoint_bytes.specs.Saving.{saving}
 use Rattle.checkpoint_bytes.specs.Loading.{loading}
+use Rattle.checkpoint_bytes.specs.FaultPlace.{Bytes}
 use Rattle.checkpoint_bytes.proofs.CalledSized.{called-sized}
-use Rattle.checkpoint_bytes.proofs.FormedSays.{Bytes}
 use Rattle.checkpoint_bytes.proofs.LoadAccepts.{load-in-shape}
 use Rattle.checkpoint_bytes.proofs.LoadedSized.{load-sized}
-use Rattle.checkpoint_bytes.proofs.SaveLoad.{loads, save-load-buffer}
+use Rattle.checkpoint_bytes.proofs.SaveLoad.{save-load-buffer}
 use Rattle.c_api.specs.Told.{tell, told}
 use Rattle.c_api.specs.Graphs.{GraphsRead, read, refusal, onRead, readGraphs}
+use Rattle.c_api.specs.Course.{Course, unchanged, advanced}
 use Rattle.c_api.specs.Calls.{checkpointRoom, Resumed, resumed, saveOn, searchOn, loadOn, resumeOn, resuming}
 use Rattle.c_api.proofs.NoVisitLost.{no-visit-lost}
 use Rattle.c_api.proofs.RefusalNumbers.{Valued, Plain, Kept, reading-valued, loading-plain, search-kept}
@@ -43,27 +44,12 @@ graphs-refusing old new =
     on-read (readGraph new .answer) _ (reading-valued (replicate 64 0) (replicate 4096 0) new) (λ m. tt))
 
 module _ (old new bytes : List ℕ) (budget : ℕ) (workspace next : List ℕ) where
-  -- the search call on the checkpoint that is loaded
-  abbrev pub called : Problem → Called
-  called P = searchCall P (loading P bytes .checkpoint) budget workspace
-
-  -- an accepted resume: the ceiling and the workspace are that call's, and the bytes written load back to the checkpoint that it left
-  pub record Advanced (r : Resumed) : Type 0 where
-    pub graphs : Problem
-    pub graphs-read : readGraphs old new ≡ read graphs
-    pub loaded : loading graphs bytes .answer ≡ passed
-    pub number : r .told .number ≡ 0
-    pub ceiling-is : called graphs .answer ≡ accepted (r .ceiling)
-    pub workspace-is : r .workspace ≡ called graphs .workspace
-    pub saved : loading graphs (take (r .told .value) (r .next)) ≡ loads (called graphs .checkpoint)
-
-  -- the two ways
-  pub data Course (r : Resumed) : Type 0 where
-    unchanged : 1 ≤ r .told .number → r .workspace ≡ workspace → r .next ≡ next → Course r
-    advanced : Advanced r → Course r
+  -- how this call goes
+  abbrev Goes : Resumed → Type 0
+  Goes = Course old new bytes budget workspace next
 
   module _ (small : Bytes bytes) (room : checkpointRoom ≤ length next) (P : Problem) (graphs-read : readGraphs old new ≡ read P) where
-    search-course : loading P bytes .answer ≡ passed → Course (searchOn P (loading P bytes .checkpoint) budget workspace next)
+    search-course : loading P bytes .answer ≡ passed → Goes (searchOn P (loading P bytes .checkpoint) budget workspace next)
     search-course loaded = go (r .answer) refl (search-kept P c budget workspace)
       where
         c : Checkpoint
@@ -72,7 +58,7 @@ module _ (old new bytes : List ℕ) (budget : ℕ) (workspace next : List ℕ) w
         r : Called
         r = searchCall P c budget workspace
 
-        go : (a : Answer) → r .answer ≡ a → Kept workspace a (r .workspace) → Course (saveOn P r next a)
+        go : (a : Answer) → r .answer ≡ a → Kept workspace a (r .workspace) → Goes (saveOn P r next a)
         go passed e h = absurd h
         go (accepted ceiling) e h =
             let found = load-in-shape P bytes loaded in
@@ -92,19 +78,19 @@ module _ (old new bytes : List ℕ) (budget : ℕ) (workspace next : List ℕ) w
         go (refused n) e h = unchanged (h .0) (h .1) refl
         go (refusedAt n at) e h = unchanged (h .0) (h .1) refl
 
-    load-course : (a : Answer) → loading P bytes .answer ≡ a → Plain a → Course (loadOn P (loading P bytes) budget workspace next a)
+    load-course : (a : Answer) → loading P bytes .answer ≡ a → Plain a → Goes (loadOn P (loading P bytes) budget workspace next a)
     load-course passed e h = search-course e
     load-course (accepted n) e h = absurd h
     load-course (refused n) e h = unchanged h refl refl
     load-course (refusedAt n at) e h = unchanged h refl refl
 
   -- A refused resume leaves both lent buffers as they were; an accepted one's bytes load back to the checkpoint that its search call left.
-  pub resume-course : Bytes bytes → Course (resuming old new bytes budget workspace next)
+  pub resume-course : Bytes bytes → Course old new bytes budget workspace next (resuming old new bytes budget workspace next)
   unfolding resuming
   resume-course small = by-room (leb checkpointRoom (length next)) refl (readGraphs old new) refl (graphs-refusing old new)
     where
       by-room : (t : Bool) → leb checkpointRoom (length next) ≡ t → (g : GraphsRead) → readGraphs old new ≡ g → Refusing g
-          → Course (cond t (resumeOn g bytes budget workspace next) (resumed (tell 13 0) 0 workspace next))
+          → Goes (cond t (resumeOn g bytes budget workspace next) (resumed (tell 13 0) 0 workspace next))
       by-room true room (read P) e h = load-course small (leb-true _ _ room) P e (loading P bytes .answer) refl (loading-plain P bytes)
       by-room true room (refusal t) e h = unchanged h refl refl
       by-room false short g e h = unchanged (omega arith) refl refl

@@ -1,4 +1,4 @@
--- 17's place: "the first byte that can't stand there (the length if the end is missing)" (01, "Refusals by place of checking").
+-- 17's place is the first byte that cannot stand there: the walk over the form stops at it, and not before.
 use mathlib.Core.Path.{_≡_, refl, ap, subst, _∙_}
 use mathlib.Core.Bool.{Bool, true, false, cond, true≢false}
 use mathlib.Core.List.{List, [], _∷_, _++_}
@@ -10,19 +10,9 @@ use lib.ListN.{length, take}
 use Rattle.checkpoint_bytes.specs.declared.form.Stage.{Stage}
 use Rattle.checkpoint_bytes.specs.declared.form.Stage.the-variants.{Header}
 use Rattle.checkpoint_bytes.specs.Form.{next, isDone, faultFrom, formFault}
+use Rattle.checkpoint_bytes.specs.FaultPlace.{Bytes, FaultPlace}
 use Rattle.checkpoint_bytes.proofs.FormWalk.{Ends, byte, ends-faultless}
-use Rattle.checkpoint_bytes.proofs.FormedSays.{Bytes}
 use Rattle.checkpoint_bytes.proofs.FormCompletes.{Started, StartedIf, complete, started-next}
-
--- what 17's place says of the bytes
-pub record FaultPlace (n : ℕ) (bytes : List ℕ) (at : ℕ) : Type 0 where
-  pub within : at ≤ length bytes
-  -- the bytes before it can still be completed to bytes in the form
-  pub rest : List ℕ
-  pub rest-bytes : Bytes rest
-  pub completed : formFault n (take at bytes ++ rest) ≡ none
-  -- with the byte at it they cannot: whatever follows, the fault stays
-  pub spoilt : at < length bytes → (more : List ℕ) → formFault n (take (at + 1) bytes ++ more) ≡ some at
 
 -- after k bytes that stand, the bytes are cut, or there is one that cannot stand
 data Stuck (n : ℕ) : Stage → List ℕ → ℕ → Type 0 where

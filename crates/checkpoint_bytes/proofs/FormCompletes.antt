@@ -15,8 +15,8 @@ use Rattle.graph.proofs.AllBelow.{allBelow-true}
 use Rattle.checkpoint_bytes.specs.declared.form.Stage.{Stage}
 use Rattle.checkpoint_bytes.specs.declared.form.Stage.the-variants.{Header, Path, PathByte, Held, HeldByte, Done}
 use Rattle.checkpoint_bytes.specs.Form.{stageIf, orStage, holdsOf, next, faultFrom}
+use Rattle.checkpoint_bytes.specs.FaultPlace.{Bytes}
 use Rattle.checkpoint_bytes.proofs.FormWalk.{Ends, ended, byte, faultless-ends}
-use Rattle.checkpoint_bytes.proofs.FormedSays.{Bytes}
 
 -- bytes that lead from the stage to the end
 pub record Completion (n : ℕ) (stage : Stage) : Type 0 where

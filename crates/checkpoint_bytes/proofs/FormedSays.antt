@@ -16,6 +16,7 @@ use Rattle.search.proofs.Padding.{padded-back}
 use Rattle.checkpoint_bytes.specs.Form.{holdsOf, finishedOf, formFault}
 use Rattle.checkpoint_bytes.specs.Saving.{stateByte, checkpointBytes}
 use Rattle.checkpoint_bytes.specs.Loading.{entries, heldEntries, pathEntries, said}
+use Rattle.checkpoint_bytes.specs.FaultPlace.{Bytes}
 use Rattle.checkpoint_bytes.specs.Between.{Sized}
 use Rattle.checkpoint_bytes.proofs.Pairs.{pairs, length-pairs, valuesBelow, length-values, values-front, entries-pairs}
 use Rattle.checkpoint_bytes.proofs.SavedBytes.{state-says, saved-bytes, saved-formed}
@@ -72,10 +73,6 @@ module _ {n : ℕ} {bytes : List ℕ} (f : Formed n bytes) where
     holds = holdsOf (state-at f i);
     incumbent = padded (held-at i);
   }
-
--- every one is a byte
-abbrev pub Bytes : List ℕ → Type 0
-Bytes bytes = (i : ℕ) → i < length bytes → getD bytes i 0 < 256
 
 -- a state is that of its two parts
 state-back : (state : ℕ) → state ≤ 3 → stateByte (finishedOf state) (holdsOf state) ≡ state

@@ -12,7 +12,8 @@ use Rattle.search.proofs.ShapeTest.{shape-test}
 use Rattle.checkpoint_bytes.specs.Form.{formFault}
 use Rattle.checkpoint_bytes.specs.Saving.{checkpointBytes}
 use Rattle.checkpoint_bytes.specs.Loading.{Loading, said, refuse, onSound, onForm, loading}
-use Rattle.checkpoint_bytes.proofs.FormedSays.{Bytes, load-save}
+use Rattle.checkpoint_bytes.specs.FaultPlace.{Bytes}
+use Rattle.checkpoint_bytes.proofs.FormedSays.{load-save}
 use Rattle.checkpoint_bytes.proofs.SaveLoad.{loads}
 
 -- the two ways that a load can go

@@ -14,9 +14,10 @@ use Rattle.search.proofs.Padding.{padded-length}
 use Rattle.checkpoint_bytes.specs.Form.{holdsOf}
 use Rattle.checkpoint_bytes.specs.Loading.{said, loading}
 use Rattle.checkpoint_bytes.specs.Between.{Sized}
+use Rattle.checkpoint_bytes.specs.FaultPlace.{Bytes}
 use Rattle.checkpoint_bytes.proofs.SavedBytes.{held-few}
 use Rattle.checkpoint_bytes.proofs.FormedBytes.{formed, formed-lengths}
-use Rattle.checkpoint_bytes.proofs.FormedSays.{Bytes, said-formed}
+use Rattle.checkpoint_bytes.proofs.FormedSays.{said-formed}
 use Rattle.checkpoint_bytes.proofs.LoadAccepts.{load-accepted}
 
 -- eight bytes say a number of 64 bits

@@ -1,5 +1,6 @@
 pub mod Answers
 pub mod Form
+pub mod FaultPlace
 pub mod Saving
 pub mod Loading
 pub mod Between

@@ -15,8 +15,8 @@ ghost use Rattle.search_tree.specs.Ceiling.{topBound, ceiling as ceilingOf};
 ghost use Rattle.search.specs.Walking.{Setting, AtNode, InBounds, Ready, walkState};
 ghost use Rattle.search.specs.Words.{Words, SameLevels};
 
-// One more than the greatest upper bound among the later siblings at `row`, which has taken `value` after `pairs` pairs. `path` is read by the
-// contract alone.
+// One more than the greatest upper bound among the later siblings at `row`, which has taken `value` after `pairs` pairs. Their words are made in
+// the level after theirs, which is needed no more. `order` and `path` are read by the contract alone.
 pub fn row_top(
     order: usize,
     edges: &[u8],

@@ -33,7 +33,7 @@ pub struct Walk {
     pub holds: bool,
 }
 
-// The upper bound of the node, and its own words in the workspace.
+// The upper bound of the node, and its own words in the workspace. `order` is read by the contract alone.
 pub fn upper_bound(
     order: usize,
     edges: &[u8],

@@ -1,0 +1,31 @@
+-- How a resumed search goes, by the number that it tells: refused with both lent buffers as they were, or accepted with the next checkpoint
+-- saved (01, "Refusals by place of checking": "Other refusals change no lent memory"; "Bookmark and calls").
+use mathlib.Core.Path.{_≡_}
+use mathlib.Core.List.{List}
+use Prim.Native.Nat.{ℕ, _≤_}
+use lib.ListN.{take}
+use Rattle.graph.specs.Answers.{passed, accepted}
+use Rattle.mapping.specs.Problem.{Problem}
+use Rattle.search.specs.Call.{Called, searchCall}
+use Rattle.checkpoint_bytes.specs.Loading.{loading}
+use Rattle.c_api.specs.Graphs.{read, readGraphs}
+use Rattle.c_api.specs.Calls.{Resumed}
+
+-- the search call on the checkpoint that is loaded
+abbrev pub called : Problem → List ℕ → ℕ → List ℕ → Called
+called P bytes budget workspace = searchCall P (loading P bytes .checkpoint) budget workspace
+
+-- an accepted resume: the ceiling and the workspace are that call's, and the bytes written load back to the checkpoint that it left
+pub record Advanced (old new bytes : List ℕ) (budget : ℕ) (workspace : List ℕ) (r : Resumed) : Type 0 where
+  pub graphs : Problem
+  pub graphs-read : readGraphs old new ≡ read graphs
+  pub loaded : loading graphs bytes .answer ≡ passed
+  pub number : r .told .number ≡ 0
+  pub ceiling-is : called graphs bytes budget workspace .answer ≡ accepted (r .ceiling)
+  pub workspace-is : r .workspace ≡ called graphs bytes budget workspace .workspace
+  pub saved : loading graphs (take (r .told .value) (r .next)) ≡ record { answer = passed; checkpoint = called graphs bytes budget workspace .checkpoint }
+
+-- the two ways
+pub data Course (old new bytes : List ℕ) (budget : ℕ) (workspace next : List ℕ) (r : Resumed) : Type 0 where
+  unchanged : 1 ≤ r .told .number → r .workspace ≡ workspace → r .next ≡ next → Course old new bytes budget workspace next r
+  advanced : Advanced old new bytes budget workspace r → Course old new bytes budget workspace next r
