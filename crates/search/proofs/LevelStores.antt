@@ -25,6 +25,10 @@ pub record FilledTo (done : ℕ → Bool) (f : ℕ → ℕ) (base : ℕ) (words 
   pub gathered : (r : ℕ) → r < 64 → member rows r ≡ (done r && not (eqb (f r) 0))
   pub kept : (i : ℕ) → (i < base) ⊎ (base + 64 ≤ i) → getD words′ i 0 ≡ getD words i 0
 
+-- the words once the level's set is stored
+abbrev pub withSet : List ℕ → ℕ → ℕ → List ℕ
+withSet words pairs rows = set words (4096 + pairs) rows
+
 -- At first nothing is stored.
 pub filled-none : (done : ℕ → Bool) (f : ℕ → ℕ) (base : ℕ) (words : List ℕ) → ((r : ℕ) → r < 64 → done r ≡ false) → FilledTo done f base words words 0
 filled-none done f base words none = record {
@@ -72,36 +76,36 @@ module _ {done : ℕ → Bool} {f : ℕ → ℕ} {base : ℕ} {words words′ : 
 module _ {done : ℕ → Bool} {f : ℕ → ℕ} {pairs : ℕ} {words words′ : List ℕ} {rows : ℕ} (s : FilledTo done f (64 * pairs) words words′ rows)
     (level : pairs < 64) (room : 4160 ≤ length words) where
   -- The level's set is the one gathered.
-  pub level-set : openSet pairs (set words′ (4096 + pairs) rows) ≡ rows
+  pub level-set : openSet pairs (withSet words′ pairs rows) ≡ rows
   level-set = getD-set-same words′ (4096 + pairs) rows 0 (omega (arith, s .kept-length))
 
   -- The rows that are done have the words of f, and the others none.
-  pub level-word : (r : ℕ) → r < 64 → levelWord (set words′ (4096 + pairs) rows) pairs r ≡ cond (done r) (f r) 0
+  pub level-word : (r : ℕ) → r < 64 → levelWord (withSet words′ pairs rows) pairs r ≡ cond (done r) (f r) 0
   level-word r h = go (done r) refl (eqb (f r) 0) refl
     where
-      own : getD (set words′ (4096 + pairs) rows) (64 * pairs + r) 0 ≡ getD words′ (64 * pairs + r) 0
+      own : getD (withSet words′ pairs rows) (64 * pairs + r) 0 ≡ getD words′ (64 * pairs + r) 0
       own = getD-set-other words′ (4096 + pairs) (64 * pairs + r) rows 0 (λ e. omega arith)
 
-      go : (d : Bool) → done r ≡ d → (e : Bool) → eqb (f r) 0 ≡ e → levelWord (set words′ (4096 + pairs) rows) pairs r ≡ cond d (f r) 0
+      go : (d : Bool) → done r ≡ d → (e : Bool) → eqb (f r) 0 ≡ e → levelWord (withSet words′ pairs rows) pairs r ≡ cond d (f r) 0
       go true d false e =
-          word-open (set words′ (4096 + pairs) rows) pairs r (rw level-set (s .gathered r h ∙ rw (d, e) refl)) ∙ own ∙ s .filled r h d
+          word-open (withSet words′ pairs rows) pairs r (rw level-set (s .gathered r h ∙ rw (d, e) refl)) ∙ own ∙ s .filled r h d
       go true d true e =
-          word-closed (set words′ (4096 + pairs) rows) pairs r (rw level-set (s .gathered r h ∙ rw (d, e) refl)) ∙ sym (eqb-true (f r) 0 e)
+          word-closed (withSet words′ pairs rows) pairs r (rw level-set (s .gathered r h ∙ rw (d, e) refl)) ∙ sym (eqb-true (f r) 0 e)
       go false d e q =
-          word-closed (set words′ (4096 + pairs) rows) pairs r (rw level-set (s .gathered r h ∙ rw d refl))
+          word-closed (withSet words′ pairs rows) pairs r (rw level-set (s .gathered r h ∙ rw d refl))
 
   -- A row of the set is done, and its word is not empty.
-  pub level-member : (r : ℕ) → member (openSet pairs (set words′ (4096 + pairs) rows)) r ≡ true
-      → (r < 64) × (done r ≡ true) × (levelWord (set words′ (4096 + pairs) rows) pairs r ≢ 0)
+  pub level-member : (r : ℕ) → member (openSet pairs (withSet words′ pairs rows)) r ≡ true
+      → (r < 64) × (done r ≡ true) × (levelWord (withSet words′ pairs rows) pairs r ≢ 0)
   level-member r e =
       let inside : member rows r ≡ true = rw level-set at e in
       let h = member-below 64 r (s .small) inside in
       let both = and-eq-true-iff (done r) (not (eqb (f r) 0)) .0 (sym (s .gathered r h) ∙ inside) in
-      let word : levelWord (set words′ (4096 + pairs) rows) pairs r ≡ f r = level-word r h ∙ ap (λ (b : Bool). cond b (f r) 0) (both .0) in
+      let word : levelWord (withSet words′ pairs rows) pairs r ≡ f r = level-word r h ∙ ap (λ (b : Bool). cond b (f r) 0) (both .0) in
       (h, both .0, λ z. true≢false (sym (both .1) ∙ ap (λ (w : ℕ). not (eqb w 0)) (sym word ∙ z)))
 
   -- Lower levels are unchanged.
-  pub level-below : (p : ℕ) → p < pairs → SameLevels p words (set words′ (4096 + pairs) rows)
+  pub level-below : (p : ℕ) → p < pairs → SameLevels p words (withSet words′ pairs rows)
   unfolding levelWord
   level-below p h = record {
     words = length-set words′ (4096 + pairs) rows ∙ s .kept-length;
@@ -109,9 +113,9 @@ module _ {done : ℕ → Bool} {f : ℕ → ℕ} {pairs : ℕ} {words words′ :
     word = λ q r l b. word-same q r (omega arith) b;
   }
     where
-      set-same : (q : ℕ) → q < pairs → openSet q (set words′ (4096 + pairs) rows) ≡ openSet q words
+      set-same : (q : ℕ) → q < pairs → openSet q (withSet words′ pairs rows) ≡ openSet q words
       set-same q l = getD-set-other words′ (4096 + pairs) (4096 + q) rows 0 (λ e. omega arith) ∙ s .kept (4096 + q) (inr (omega arith))
 
-      word-same : (q r : ℕ) → q < pairs → r < 64 → levelWord (set words′ (4096 + pairs) rows) q r ≡ levelWord words q r
+      word-same : (q r : ℕ) → q < pairs → r < 64 → levelWord (withSet words′ pairs rows) q r ≡ levelWord words q r
       word-same q r l b =
           rw (set-same q l, getD-set-other words′ (4096 + pairs) (64 * q + r) rows 0 (λ e. omega arith), s .kept (64 * q + r) (inl (omega arith))) refl

@@ -21,7 +21,7 @@ use Rattle.bitset.proofs.WithoutLeast.{member-without-least, without-least-smal
 use Rattle.graph.specs.Graph.{place}
 use Rattle.search.specs.Words.{openSet, levelWord, metWord, Refined, meetRows}
 use Rattle.search.proofs.Levels.{word-open, word-closed, meet-empty, same-none}
-use Rattle.search.proofs.LevelStores.{FilledTo, filled-none, filled-more, filled-skip, level-word, level-member, level-below}
+use Rattle.search.proofs.LevelStores.{FilledTo, withSet, filled-none, filled-more, filled-skip, level-word, level-member, level-below}
 
 -- the word at a row's place in the parent's level, met with its mask
 abbrev pub metPlace : List ℕ → List ℕ → ℕ → ℕ → ℕ → List ℕ → ℕ → ℕ
@@ -118,7 +118,7 @@ module _ {edges masks : List ℕ} {row pairs value : ℕ} {ws : List ℕ} where
         go false e = rw (word-closed ws pairs r e) (sym (meet-empty _))
 
     -- The level is refined once its set is stored,
-    pub refined-all : Refined edges masks row pairs value ws (set ws′ (4096 + (pairs + 1)) rows)
+    pub refined-all : Refined edges masks row pairs value ws (withSet ws′ (pairs + 1) rows)
     refined-all = record {
       kept = level-below (s .level) inner room pairs (omega arith);
       met = λ r later h. level-word (s .level) inner room r h ∙ met-is r h later;
