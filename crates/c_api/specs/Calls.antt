@@ -1,11 +1,11 @@
 -- Starting, resuming and reading out a search whose checkpoint is bytes (01, "Bookmark and calls").
-use mathlib.Core.Bool.{Bool, cond}
+use mathlib.Core.Bool.{cond}
 use mathlib.Core.List.{List}
 use Prim.Native.Nat.{ℕ}
 use lib.Dec.{leb}
 use lib.ListN.{length, take, replicate}
 use Rattle.graph.specs.Answers.{Answer, passed, accepted, refused, refusedAt}
-use Rattle.graph.specs.Writing.{Writing, overwrite}
+use Rattle.graph.specs.Writing.{overwrite}
 use Rattle.mapping.specs.Problem.{Problem}
 use Rattle.mapping.specs.Common.{size}
 use Rattle.search.specs.declared.Checkpoint.{Checkpoint}

@@ -2,7 +2,6 @@
 use mathlib.Core.List.{List}
 use Prim.Native.Nat.{ℕ}
 use Rattle.graph.specs.Reading.{readGraph}
-use Rattle.mapping.specs.Problem.{Problem}
 use Rattle.mapping.specs.Answers.{Outcome, accepted, refused, refusedRow, refusedRows}
 use Rattle.mapping.specs.Check.{checkOutcome}
 use Rattle.c_api.specs.declared.told.Told.{Told}

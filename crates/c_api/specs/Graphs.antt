@@ -3,7 +3,7 @@ use mathlib.Core.List.{List}
 use Prim.Native.Nat.{ℕ}
 use Rattle.graph.specs.Graph.{graph}
 use Rattle.graph.specs.Answers.{Answer, passed, accepted, refused, refusedAt}
-use Rattle.graph.specs.Reading.{Reading, readGraph}
+use Rattle.graph.specs.Reading.{readGraph}
 use Rattle.mapping.specs.Problem.{Problem, problem}
 use Rattle.c_api.specs.declared.told.Told.{Told}
 use Rattle.c_api.specs.declared.graphs.Graphs.{Graphs}

@@ -5,7 +5,6 @@ use mathlib.Core.List.{List, [], _∷_}
 use Prim.Native.Nat.{ℕ, _^_, _<_}
 use lib.ListN.{length, take}
 use Rattle.graph.specs.Answers.{Answer, passed, accepted, refused, refusedAt}
-use Rattle.graph.specs.Writing.{Writing}
 use Rattle.mapping.specs.Problem.{Problem}
 use Rattle.search.specs.declared.Checkpoint.{Checkpoint}
 use Rattle.search.specs.Call.{Called}

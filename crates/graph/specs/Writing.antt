@@ -2,7 +2,7 @@
 -- then rising b, then the end", and the row "Output" of the refusals.
 use mathlib.Core.Bool.{Bool, cond, not, _&&_}
 use mathlib.Core.List.{List, [], _∷_, _++_}
-use Prim.Native.Nat.{ℕ, _+_, _*_}
+use Prim.Native.Nat.{ℕ, _+_}
 use lib.Dec.{leb, ltb, eqb}
 use lib.ListN.{length, drop}
 use Rattle.graph.specs.declared.WriteAnswer.{WriteAnswer}

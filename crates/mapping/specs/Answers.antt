@@ -1,7 +1,6 @@
 -- What each answer of the check says in 01's terms: the size, or a refusal's number with its rows (01, "Refusals by place of checking").
 use Prim.Native.Nat.{ℕ}
 use Rattle.graph.specs.Answers.{flawNumber}
-use Rattle.mapping.specs.declared.OldVertex.{OldVertex}
 use Rattle.mapping.specs.declared.MappingAnswer.{MappingAnswer}
 use Rattle.mapping.specs.declared.MappingAnswer.the-variants.{Common, Flawed, Length, NoVertex, SamePartner, LabelsDiffer, EdgesDiffer}
 

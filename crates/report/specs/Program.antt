@@ -10,7 +10,7 @@ use Rattle.graph.specs.Answers.{Answer, passed, accepted, refused, refusedAt}
 pub use Rattle.graph.specs.Reading.{readGraph}
 use Rattle.mapping.specs.Problem.{Problem, problem}
 use Rattle.search.specs.Checkpoints.{freshCheckpoint}
-use Rattle.search.specs.Call.{Called, wordsNeeded, searchCall}
+use Rattle.search.specs.Call.{wordsNeeded, searchCall}
 use Rattle.report.specs.Report.{refusedText, reportText}
 
 -- what follows on a graph that was read, or the line of the refusal

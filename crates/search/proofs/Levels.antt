@@ -3,11 +3,11 @@ use mathlib.Core.Path.{_≡_, refl, sym, ap, _∙_}
 use mathlib.Core.Logic.{⊎-elim}
 use mathlib.Core.Bool.{Bool, true, false, cond, not, _&&_}
 use mathlib.Core.List.{List}
-use Prim.Native.Nat.{ℕ, zero, suc, _+_, _*_, _≤_, _<_}
-use native.Mathlib.Nat.{add-zero, le-refl, le-of-suc-le-suc, eq-or-lt-of-le}
+use Prim.Native.Nat.{ℕ, zero, suc, _+_, _*_, _≤_}
+use native.Mathlib.Nat.{add-zero, eq-or-lt-of-le}
 use native.Mathlib.Omega.{arith}
-use lib.Dec.{leb, ltb, eqb}
-use lib.ListN.{getD, take}
+use lib.Dec.{ltb, eqb}
+use lib.ListN.{getD}
 use borrow.Author.Tests.{ne-eqb}
 use Rattle.bitset.specs.Members.{member, meetOf}
 use Rattle.bitset.specs.Count.{countBelow}
@@ -16,9 +16,7 @@ use Rattle.bitset.proofs.SetOf.{setOf-lt, member-setOf, no-member}
 use Rattle.bitset.proofs.CountBelow.{countBelow-congr}
 use Rattle.graph.specs.Below.{sumBelow}
 use Rattle.graph.specs.Graph.{place}
-use Rattle.mapping.specs.Problem.{Problem}
-use Rattle.mapping.specs.Common.{size}
-use Rattle.search.specs.Words.{openSet, levelWord, ExactSet, SameLevels, metWord, openRows, meetRows}
+use Rattle.search.specs.Words.{openSet, levelWord, ExactSet, SameLevels, openRows, meetRows}
 
 module _ (ws : List ℕ) (pairs r : ℕ) where
   -- A row in the level's set has the word at its place,

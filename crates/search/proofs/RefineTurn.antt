@@ -8,7 +8,7 @@ use native.Mathlib.Decide.{decLt}
 use native.Mathlib.Omega.{arith}
 use lib.Dec.{leb, ltb, eqb}
 use lib.ListN.{length, getD, set}
-use borrow.Author.Tests.{lt-ltb, le-ltb, le-leb, lt-leb, leb-true, eq-eqb, ne-eqb}
+use borrow.Author.Tests.{lt-ltb, le-ltb, le-leb, leb-true, eq-eqb, ne-eqb}
 use Rattle.bitset.specs.Members.{member, meetOf, insert, membersFrom}
 use Rattle.bitset.specs.Count.{countBelow}
 use Rattle.bitset.specs.Least.{leastMember, withoutLeast}
@@ -19,7 +19,7 @@ use Rattle.bitset.proofs.LeastBelow.{leastBelow-Member, leastBelow-Empty}
 use Rattle.bitset.proofs.MembersFrom.{member-from}
 use Rattle.bitset.proofs.WithoutLeast.{member-without-least, without-least-smaller}
 use Rattle.graph.specs.Graph.{place}
-use Rattle.search.specs.Words.{openSet, levelWord, metWord, Refined, meetRows}
+use Rattle.search.specs.Words.{openSet, metWord, Refined, meetRows}
 use Rattle.search.proofs.Levels.{word-open, word-closed, meet-empty, same-none}
 use Rattle.search.proofs.LevelStores.{FilledTo, withSet, filled-none, filled-more, filled-skip, level-word, level-member, level-below}
 

@@ -2,9 +2,9 @@
 -- the row's word.
 use mathlib.Core.Path.{_≡_}
 use mathlib.Core.List.{List, map, map-append}
-use Prim.Native.Nat.{ℕ, suc, _+_, _-_, _*_, _≤_, _<_, max}
+use Prim.Native.Nat.{ℕ, _+_, _-_, _≤_, _<_, max}
 use native.Mathlib.Omega.{arith}
-use lib.ListN.{length, getD, take}
+use lib.ListN.{length, take}
 use borrow.Author.Tests.{lt-ltb}
 use Rattle.bitset.specs.Least.{leastAbove}
 use Rattle.bitset.specs.declared.Least.{Least}

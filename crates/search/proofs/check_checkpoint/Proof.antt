@@ -1,6 +1,5 @@
 -- `search::check_checkpoint` meets its contract: the graphs are tested first, then the shape. Assumes nothing.
 use mathlib.Core.Path.{_≡_, sym, ap, _∙_}
-use mathlib.Core.Bool.{true, false}
 use lib.ListN.{length-map}
 use borrow.Author.Needs.{needs}
 use borrow.Author.Tests.{not-true, not-false}
@@ -8,7 +7,6 @@ use Rattle.graph.specs.Graph.{graph}
 use Rattle.graph.specs.Answers.{passed, soundnessAnswer}
 use Rattle.mapping.specs.Problem.{Problem, problem, problemAnswer}
 use Rattle.mapping.proofs.ProblemPasses.{passes-problem}
-use Rattle.search.specs.Checkpoints.{inShape}
 use Rattle.search.specs.Checking.{checkpointAnswer}
 use Rattle.search.proofs.check_checkpoint.Statement.{statement}
 use Rattle.search.proofs.check_checkpoint.Tie as tie

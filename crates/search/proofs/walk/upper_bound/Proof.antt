@@ -1,7 +1,7 @@
 -- `search::walk::upper_bound` meets its contract: the rows counted are those of the node's own level, or of its parent's met with the
 -- masks (`NodeWords`).
 -- Assumes nothing.
-use mathlib.Core.Path.{_≡_, ap, _∙_}
+use mathlib.Core.Path.{ap, _∙_}
 use Prim.Native.Nat.{ℕ, _+_, _-_, _<_}
 use lib.ListN.{getD}
 use native.Mathlib.Omega.{arith}

@@ -1,7 +1,6 @@
 -- `search::words::count_open` meets its contract: the size of a level's set from a row on is the count of its rows from there.
 -- Assumes nothing.
-use mathlib.Core.Path.{_≡_, ap, _∙_}
-use Prim.Native.Nat.{ℕ}
+use mathlib.Core.Path.{ap, _∙_}
 use borrow.Author.Needs.{needs}
 use Rattle.bitset.specs.Count.{size}
 use Rattle.bitset.proofs.CountBelow.{countBelow-congr}

@@ -1,6 +1,6 @@
 -- `search::words::root_words` meets its contract: row by row the words are stored, and the rows that have one are gathered (`RootTurn`).
 -- Assumes nothing.
-use mathlib.Core.Path.{_≡_, sym, _∙_}
+use mathlib.Core.Path.{sym, _∙_}
 use mathlib.Core.Logic.{⊎-elim}
 use Prim.Native.Nat.{_-_, _≤_}
 use native.Mathlib.Omega.{arith}
