@@ -9,6 +9,7 @@ use lib.ListN.{length, take, replicate}
 use borrow.Author.Tests.{leb-true}
 use Rattle.graph.specs.Answers.{Answer, passed, accepted, refused, refusedAt}
 use Rattle.graph.specs.Reading.{readGraph}
+use Rattle.graph.proofs.RefusalNumbers.{Valued, Plain, reading-valued}
 use Rattle.mapping.specs.Problem.{Problem}
 use Rattle.search.specs.declared.Checkpoint.{Checkpoint}
 use Rattle.search.specs.Call.{Called, searchCall}
@@ -24,7 +25,7 @@ use Rattle.c_api.specs.Graphs.{GraphsRead, read, refusal, onRead, readGr
 use Rattle.c_api.specs.Course.{Course, unchanged, advanced}
 use Rattle.c_api.specs.Calls.{checkpointRoom, Resumed, resumed, saveOn, searchOn, loadOn, resumeOn, resuming}
 use Rattle.c_api.proofs.NoVisitLost.{no-visit-lost}
-use Rattle.c_api.proofs.RefusalNumbers.{Valued, Plain, Kept, reading-valued, loading-plain, search-kept}
+use Rattle.c_api.proofs.RefusalNumbers.{Kept, loading-plain, search-kept}
 
 -- no graphs are refused by the number 0
 abbrev Refusing : GraphsRead → Type 0
@@ -34,8 +35,8 @@ Refusing (refusal t) = 1 ≤ t .number
 on-read : (a : Answer) (f : ℕ → GraphsRead) → Valued a → ((n : ℕ) → Refusing (f n)) → Refusing (onRead a f)
 on-read passed f h each = absurd h
 on-read (accepted n) f h each = each n
-on-read (refused number) f h each = h
-on-read (refusedAt number at) f h each = h
+on-read (refused number) f h each = h .0
+on-read (refusedAt number at) f h each = h .0
 
 graphs-refusing : (old new : List ℕ) → Refusing (readGraphs old new)
 unfolding readGraphs
@@ -75,14 +76,14 @@ module _ (old new bytes : List ℕ) (budget : ℕ) (workspace next : List ℕ) w
                   ap (λ (a : Answer). loading P (take (told a .value) (saving P (r .checkpoint) next .buffer))) written
                   ∙ save-load-buffer P (r .checkpoint) next _ (called-sized P c sized (record { budget = budget; workspace = workspace })) written;
             })
-        go (refused n) e h = unchanged (h .0) (h .1) refl
-        go (refusedAt n at) e h = unchanged (h .0) (h .1) refl
+        go (refused n) e h = unchanged (h .0 .0) (h .1) refl
+        go (refusedAt n at) e h = unchanged (h .0 .0) (h .1) refl
 
     load-course : (a : Answer) → loading P bytes .answer ≡ a → Plain a → Goes (loadOn P (loading P bytes) budget workspace next a)
     load-course passed e h = search-course e
     load-course (accepted n) e h = absurd h
-    load-course (refused n) e h = unchanged h refl refl
-    load-course (refusedAt n at) e h = unchanged h refl refl
+    load-course (refused n) e h = unchanged (h .0) refl refl
+    load-course (refusedAt n at) e h = unchanged (h .0) refl refl
 
   -- A refused resume leaves both lent buffers as they were; an accepted one's bytes load back to the checkpoint that its search call left.
   pub resume-course : Bytes bytes → Course old new bytes budget workspace next (resuming old new bytes budget workspace next)

@@ -1,6 +1,7 @@
 pub mod AllBelow
 pub mod Below
 pub mod Bytes
+pub mod Choice
 pub mod Fuel
 pub mod HalfRows
 pub mod Judge
@@ -9,6 +10,7 @@ pub mod MadeReader
 pub mod PartTables
 pub mod ReadLoop
 pub mod ReadSound
+pub mod RefusalNumbers
 pub mod RoundTrip
 pub mod SoundTests
 pub mod Stores

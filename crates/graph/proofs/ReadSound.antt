@@ -1,6 +1,6 @@
 -- Whatever reading accepts is a sound graph, and a refused reading leaves both tables all 0.
 use mathlib.Core.Path.{_≡_, refl, sym, _∙_, subst}
-use mathlib.Core.Bool.{Bool, true, false, cond, _&&_}
+use mathlib.Core.Bool.{_&&_}
 use mathlib.Core.Logic.{_≢_, _⊎_, inl, inr, ⊎-elim}
 use mathlib.Core.List.{List}
 use Prim.Native.Nat.{ℕ, zero, suc, _+_, _≤_, _<_, max}
@@ -18,6 +18,7 @@ use Rattle.graph.specs.Answers.{accepted, refusedAt}
 use Rattle.graph.specs.Commands.{decode, width}
 use Rattle.graph.specs.Reading.{withVertex, withEdge, Judged, grows, ends, faulty, judge}
 use Rattle.graph.specs.Reading.{Reading, refuseAt, finish, onJudged, readFrom, reading}
+use Rattle.graph.proofs.Choice.{cond-cases}
 
 -- ---- the graphs that reading makes
 
@@ -131,11 +132,6 @@ module _ (g : Graph) (a b x : ℕ) (s : Sound g) (ha : a < g .order) (hb : b < g
 
 -- ---- one command
 
--- what holds of both cases holds of the choice
-cond-cases : {A : Type 0} (P : A → Type 0) (t : Bool) {x y : A} → (t ≡ true → P x) → (t ≡ false → P y) → P (cond t x y)
-cond-cases P true if-true if-false = if-true refl
-cond-cases P false if-true if-false = if-false refl
-
 -- the label that a command gives is a byte
 abbrev pub LabelByte : Command → Type 0
 LabelByte (Vertex x) = x ≤ 255
@@ -185,12 +181,12 @@ judge-sound g c s byte g′ e = subst GrowsSound e (judged-sound g c s byte)
 
 -- ---- all commands
 
--- what holds of each case holds of what is read after a judged command
-onJudged-cases : (P : Reading → Type 0) (f : Graph → Reading) (e : Reading) (r : ℕ → Reading) (j : Judged)
-    → ((g : Graph) → j ≡ grows g → P (f g)) → P e → ((number : ℕ) → P (r number)) → P (onJudged f e r j)
+-- What holds of each case holds of what is read after a judged command.
+pub onJudged-cases : (P : Reading → Type 0) (f : Graph → Reading) (e : Reading) (r : ℕ → Reading) (j : Judged)
+    → ((g : Graph) → j ≡ grows g → P (f g)) → P e → ((number : ℕ) → j ≡ faulty number → P (r number)) → P (onJudged f e r j)
 onJudged-cases P f e r (grows g) grown ended faulted = grown g refl
 onJudged-cases P f e r ends grown ended faulted = ended
-onJudged-cases P f e r (faulty number) grown ended faulted = faulted number
+onJudged-cases P f e r (faulty number) grown ended faulted = faulted number refl
 
 abbrev AcceptsSound : Reading → Type 0
 AcceptsSound r = (n : ℕ) → r .answer ≡ accepted n → Sound (graph n (r .labels) (r .edges))
@@ -215,7 +211,7 @@ readFrom-sound (suc fuel) g at rest s small =
     (judge-sound g (decode rest) s (decode-byte rest small) g′ e)
     (λ i. rw getD-drop (small (width (decode rest) + i))))
     (cond-cases AcceptsSound (eqb (length (drop 1 rest)) 0) (λ e. accepted-sound g s) (λ e. refused-sound 9 (at + 1)))
-    (λ number. refused-sound number at)
+    (λ number e. refused-sound number at)
 
 -- Whatever reading accepts is a sound graph.
 pub reading-sound : (labels edges bytes : List ℕ) → ((i : ℕ) → getD bytes i 0 ≤ 255)
@@ -247,7 +243,7 @@ readFrom-clears (suc fuel) g at rest =
     (λ g′ e. readFrom-clears fuel g′ (at + width (decode rest)) (drop (width (decode rest)) rest))
     (cond-cases RefusesClear (eqb (length (drop 1 rest)) 0)
     (λ e number place q. let z : _≡_ {A = ℕ} 0 1 = cc in absurd (omega arith)) (λ e. refused-clear 9 (at + 1)))
-    (λ number. refused-clear number at)
+    (λ number e. refused-clear number at)
 
 -- A reading refused at a place leaves both tables all 0.
 pub refused-clears : (labels edges bytes : List ℕ) (number at : ℕ) → reading labels edges bytes .answer ≡ refusedAt number at

@@ -1,12 +1,15 @@
--- Two graphs pass exactly when both are sound.
-use mathlib.Core.Path.{_≡_, refl}
+-- Two graphs pass exactly when both are sound, and others are refused by one of 01's numbers.
+use mathlib.Core.Path.{_≡_, refl, subst}
 use mathlib.Core.Bool.{Bool, true, false, cond, true≢false}
 use Prim.Native.Nat.{ℕ}
+use native.Mathlib.Omega.{arith}
 use lib.ListN.{length}
 use borrow.Author.Tests.{eq-eqb, le-leb}
 use Rattle.graph.specs.Graph.{Graph, Sound}
 use Rattle.graph.specs.Answers.{Answer, passed, accepted, refused, refusedAt}
-use Rattle.graph.specs.Soundness.{tablesFit, labelsSound, edgesSound, soundness}
+use Rattle.graph.specs.Soundness.{tablesFit, soundness}
+use Rattle.graph.proofs.Choice.{either}
+use Rattle.graph.proofs.RefusalNumbers.{Plain, soundness-plain}
 use Rattle.graph.proofs.SoundTests.{sound-passes, passes-sound}
 use Rattle.mapping.specs.Problem.{Problem, SoundProblem, firstRefusal, bothFit, problemAnswer}
 
@@ -43,28 +46,17 @@ passes-problem P e =
     let both = both-passed (bothFit P) (soundness (P .old)) (soundness (P .new)) e in
     record { old-sound = passes-sound (P .old) (both .0); new-sound = passes-sound (P .new) (both .1) }
 
--- no graph is accepted with a number
-soundness-number : (g : Graph) (n : ℕ) → soundness g ≡ accepted n → ⊥
-unfolding soundness
-soundness-number g n e =
-    go (tablesFit (g .order) (g .labels) (g .edges)) (labelsSound (g .order) (g .labels)) (edgesSound (g .order) (g .edges)) e
-  where
-    go : (t u v : Bool) → cond t (cond u (cond v passed (refused 12)) (refused 11)) (refused 10) ≡ accepted n → ⊥
-    go true true true e = true≢false (cc)
-    go true true false e = true≢false (cc)
-    go true false v e = true≢false (cc)
-    go false u v e = true≢false (cc)
-
--- Two graphs are never accepted with a number: they pass or are refused.
-pub problem-number : (P : Problem) (n : ℕ) → problemAnswer P ≡ accepted n → ⊥
+-- Two graphs pass, or are refused by one of 01's numbers.
+pub problem-plain : (P : Problem) → Plain (problemAnswer P)
 unfolding problemAnswer
-problem-number P n e =
-    go (bothFit P) (soundness (P .old)) (soundness (P .new)) (soundness-number (P .old)) (soundness-number (P .new)) e
+problem-plain P = either Plain (bothFit P) (first (soundness (P .old)) (soundness-plain (P .old))) (omega arith)
   where
-    go : (t : Bool) (a b : Answer) → ((n : ℕ) → a ≡ accepted n → ⊥) → ((n : ℕ) → b ≡ accepted n → ⊥)
-        → cond t (firstRefusal a b) (refused 10) ≡ accepted n → ⊥
-    go true passed b fa fb e = fb n e
-    go true (accepted m) b fa fb e = fa m refl
-    go true (refused m) b fa fb e = true≢false (cc)
-    go true (refusedAt m at) b fa fb e = true≢false (cc)
-    go false a b fa fb e = true≢false (cc)
+    first : (a : Answer) → Plain a → Plain (firstRefusal a (soundness (P .new)))
+    first passed h = soundness-plain (P .new)
+    first (accepted n) h = h
+    first (refused n) h = h
+    first (refusedAt n at) h = h
+
+-- So they are never accepted with a number.
+pub problem-number : (P : Problem) (n : ℕ) → problemAnswer P ≡ accepted n → ⊥
+problem-number P n e = subst Plain e (problem-plain P)

@@ -1,21 +1,23 @@
 -- What is printed once graph bytes are read, by the answer of the reading; and an order that is read is at most 64.
-use mathlib.Core.Path.{_≡_, sym, ap, _∙_}
-use mathlib.Core.List.{List}
+use mathlib.Core.Path.{_≡_, refl, sym, ap, _∙_}
+use mathlib.Core.List.{List, [], _∷_}
 use Prim.Native.Nat.{ℕ, _≤_}
 use native.Mathlib.Omega.{arith}
+use denote.Enum.Declared.{tagOf}
+use types.Run.{OneOf, miss}
 use mir.Syntax.{w8}
 use mir.Val.{Fits}
 use lib.ListN.{getD, replicate}
-use Rattle.graph.specs.declared.Fault.{Fault}
 use Rattle.graph.specs.declared.ReadAnswer.{ReadAnswer}
 use Rattle.graph.specs.declared.ReadAnswer.the-variants.{Order, Tables, Refused}
 use Rattle.graph.specs.Graph.{Graph, graph}
-use Rattle.graph.specs.Answers.{readAnswer, faultNumber}
+use Rattle.graph.specs.Answers.{readAnswer}
 use Rattle.graph.specs.Reading.{Reading, readingOf}
 use Rattle.graph.specs.Writing.{Writing, fill}
+use Rattle.graph.proofs.ReadAnswer.{the-type}
 use Rattle.graph.proofs.ReadSound.{reading-sound}
 use Rattle.report.specs.Report.{refusedText}
-use Rattle.report.specs.Program.{readGraph, onGraph}
+use Rattle.report.specs.Program.{readGraph, refusalNumber, onGraph}
 
 -- what `read_graph` says of bytes, and both tables afterwards
 pub record Read (bytes : List ℕ) : Type 0 where
@@ -34,17 +36,20 @@ order-max {bytes} r small n e =
 abbrev printed : (Graph → List ℕ) → List ℕ → Reading → Writing
 printed f out x = fill (onGraph (x .answer) (λ n. f (graph n (x .labels) (x .edges)))) out
 
+-- an answer of the arm `_`, which is no order
+refused-answer : (a : ReadAnswer) (f : ℕ → List ℕ) → OneOf (1 ∷ 2 ∷ []) (tagOf the-type a)
+    → refusedText (refusalNumber (readAnswer a)) ≡ onGraph (readAnswer a) f
+refused-answer (Order n) f k = absurd (miss (1 ∷ 2 ∷ []) 0 tt k)
+refused-answer Tables f k = refl
+refused-answer (Refused fault at) f k = refl
+
 module _ {bytes : List ℕ} (r : Read bytes) (f : Graph → List ℕ) (out : List ℕ) where
-  by-answer : (a : ReadAnswer) → r .answer ≡ a → printed f out (readingOf a (r .labels) (r .edges)) ≡ printed f out (readGraph bytes)
-  by-answer a e =
-      ap (printed f out) (ap (λ (x : ReadAnswer). readingOf x (r .labels) (r .edges)) (sym e) ∙ r .told)
-
   pub print-graph : (n : ℕ) → r .answer ≡ Order n → fill (f (graph n (r .labels) (r .edges))) out ≡ printed f out (readGraph bytes)
-  print-graph n e = by-answer (Order n) e
+  print-graph n e = ap (λ (a : ReadAnswer). printed f out (readingOf a (r .labels) (r .edges))) (sym e) ∙ ap (printed f out) (r .told)
 
-  pub print-tables : r .answer ≡ Tables → fill (refusedText 10) out ≡ printed f out (readGraph bytes)
-  print-tables e = by-answer Tables e
-
-  pub print-fault : (fault : Fault) (at : ℕ) → r .answer ≡ Refused fault at → (number : ℕ) → number ≡ faultNumber fault
+  pub print-refusal : OneOf (1 ∷ 2 ∷ []) (tagOf the-type (r .answer)) → (number : ℕ) → number ≡ refusalNumber (readAnswer (r .answer))
       → fill (refusedText number) out ≡ printed f out (readGraph bytes)
-  print-fault fault at e number told = ap (λ (x : ℕ). fill (refusedText x) out) told ∙ by-answer (Refused fault at) e
+  print-refusal k number e =
+      ap (λ (x : ℕ). fill (refusedText x) out) e
+      ∙ ap (λ (l : List ℕ). fill l out) (refused-answer (r .answer) _ k)
+      ∙ ap (printed f out) (r .told)

@@ -4,7 +4,6 @@ pub mod PutRuns
 pub mod PutTexts
 pub mod ReportCases
 pub mod TextLengths
-pub mod RefusalNumbers
 pub mod RefitLength
 pub mod FilledBuffer
 pub mod GraphRead

@@ -15,8 +15,10 @@ use lib.Seq.{getD-take, take-at}
 use Rattle.graph.specs.Answers.{Answer, passed, accepted, refused, refusedAt}
 use Rattle.graph.specs.Writing.{fill}
 use Rattle.graph.proofs.Below.{sumBelow-le, sumBelow-same}
+use Rattle.graph.proofs.Choice.{either}
+use Rattle.graph.proofs.RefusalNumbers.{RefusalNumber, Valued, Plain, reading-valued}
 use Rattle.mapping.specs.Problem.{Problem, SoundProblem, problemAnswer}
-use Rattle.mapping.proofs.ProblemPasses.{passes-problem, problem-number}
+use Rattle.mapping.proofs.ProblemPasses.{passes-problem, problem-plain}
 use Rattle.mapping.proofs.Size.{size-nil}
 use Rattle.search_tree.specs.Rules.{rulesOf}
 use Rattle.search_tree.specs.Node.{candidates, nonEmpty, upperBound, laterSiblings, openNodes}
@@ -36,10 +38,9 @@ use Rattle.report.specs.Lines.{refusedWord}
 use Rattle.report.specs.Report.{acceptedText, refusedText, reportText}
 use Rattle.report.specs.Program.{readGraph, onGraph, minimumOf, budgetOf, searchText, refitText}
 use Rattle.report.proofs.TextLengths.{length-numberLine, length-accepted}
-use Rattle.report.proofs.RefusalNumbers.{Numbered, either, reading-numbered, problem-numbered}
 
 -- the line of a refusal is short
-refused-short : (number : ℕ) → number ≤ 22 → length (refusedText number) ≤ 8192
+refused-short : (number : ℕ) → RefusalNumber number → length (refusedText number) ≤ 8192
 refused-short number h = omega (arith, length-numberLine refusedWord number (omega arith))
 
 module _ (P : Problem) (sound : SoundProblem P) (minimum : ℕ) where
@@ -117,16 +118,16 @@ module _ (P : Problem) (minimum budget : ℕ) (byte : minimum ≤ 255) where
 
   search-short : length (searchText P minimum budget) ≤ 8192
   unfolding searchText searchCall
-  search-short = go (problemAnswer P) refl (problem-numbered P)
+  search-short = go (problemAnswer P) refl (problem-plain P)
     where
-      go : (a : Answer) → problemAnswer P ≡ a → Numbered a → length (searchText P minimum budget) ≤ 8192
+      go : (a : Answer) → problemAnswer P ≡ a → Plain a → length (searchText P minimum budget) ≤ 8192
       go passed e h = sound-short (passes-problem P e)
-      go (accepted n) e h = absurd (problem-number P n e)
+      go (accepted n) e h = absurd h
       go (refused n) e h = rw e (refused-short n h)
       go (refusedAt n at) e h = rw e (refused-short n h)
 
-on-graph : (a : Answer) (f : ℕ → List ℕ) → Numbered a → ((n : ℕ) → length (f n) ≤ 8192) → length (onGraph a f) ≤ 8192
-on-graph passed f h each = omega arith
+on-graph : (a : Answer) (f : ℕ → List ℕ) → Valued a → ((n : ℕ) → length (f n) ≤ 8192) → length (onGraph a f) ≤ 8192
+on-graph passed f h each = absurd h
 on-graph (accepted n) f h each = each n
 on-graph (refused n) f h each = refused-short n h
 on-graph (refusedAt n at) f h each = refused-short n h
@@ -136,8 +137,8 @@ pub refit-max : (old new input : List ℕ) → ((i : ℕ) → getD input i 0 ≤
 unfolding refitText
 refit-max old new input bytes =
     either (λ (l : List ℕ). length l ≤ 8192) (eqb (length input) 9)
-    (on-graph (readGraph old .answer) _ (reading-numbered (replicate 64 0) (replicate 4096 0) old) (λ n.
-    on-graph (readGraph new .answer) _ (reading-numbered (replicate 64 0) (replicate 4096 0) new) (λ m.
+    (on-graph (readGraph old .answer) _ (reading-valued (replicate 64 0) (replicate 4096 0) old) (λ n.
+    on-graph (readGraph new .answer) _ (reading-valued (replicate 64 0) (replicate 4096 0) new) (λ m.
     search-short _ (minimumOf input) (budgetOf input) (bytes 0))))
     (omega arith)
 

@@ -13,6 +13,13 @@ use Rattle.search.specs.Checkpoints.{freshCheckpoint}
 use Rattle.search.specs.Call.{wordsNeeded, searchCall}
 use Rattle.report.specs.Report.{refusedText, reportText}
 
+-- the number of a refusal, or 0
+abbrev pub refusalNumber : Answer → ℕ
+refusalNumber passed = 0
+refusalNumber (accepted n) = 0
+refusalNumber (refused number) = number
+refusalNumber (refusedAt number at) = number
+
 -- what follows on a graph that was read, or the line of the refusal
 abbrev pub onGraph : Answer → (ℕ → List ℕ) → List ℕ
 onGraph passed f = []
@@ -43,8 +50,9 @@ afterOld old new input =
     onGraph (r .answer) (λ m. searchText (problem old (graph m (r .labels) (r .edges))) (minimumOf input) (budgetOf input))
 
 -- "the old file being read first"
+abbrev pub graphsText : List ℕ → List ℕ → List ℕ → List ℕ
+graphsText old new input =
+    let r = readGraph old in onGraph (r .answer) (λ n. afterOld (graph n (r .labels) (r .edges)) new input)
+
 unfoldable pub refitText : List ℕ → List ℕ → List ℕ → List ℕ
-refitText old new input =
-    cond (eqb (length input) 9)
-    (let r = readGraph old in onGraph (r .answer) (λ n. afterOld (graph n (r .labels) (r .edges)) new input))
-    refusedInput
+refitText old new input = cond (eqb (length input) 9) (graphsText old new input) refusedInput
