@@ -1,5 +1,5 @@
 -- A graph that is read, or tested, is accepted or refused by one of 01's numbers, 1 to 22.
-use mathlib.Core.Path.{_≡_, subst}
+use mathlib.Core.Path.{subst}
 use mathlib.Core.Bool.{_&&_}
 use mathlib.Core.List.{List}
 use Prim.Native.Nat.{ℕ, zero, suc, _+_, _≤_, max}
