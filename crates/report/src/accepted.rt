@@ -19,10 +19,10 @@ pub fn put_head(
     requires { ⌜ length (headLines finished holds (now mapping) steps ceiling) ≤ length (now out) ⌝ }
     ensures { λ r. ⌜ Put (headLines finished holds (now (mapping .entry)) steps ceiling) (now (out .entry)) 0 r (now (out .exit)) ⌝ }
 {
-    let size = text::put_state(finished, out, 0);
-    let count = text::put_size(holds, mapping, out, size);
-    let fence = text::put_number_line(b"steps ", steps, out, count);
-    text::put_number_line(b"fence ", ceiling as u64, out, fence)
+    let state_end = text::put_state(finished, out, 0);
+    let size_end = text::put_size(holds, mapping, out, state_end);
+    let steps_end = text::put_number_line(b"steps ", steps, out, size_end);
+    text::put_number_line(b"fence ", ceiling as u64, out, steps_end)
 }
 
 // The lines of the vertices, if a mapping is held.

@@ -63,13 +63,13 @@ same-length c = search needs
 
 returns : tie.Need-returns
 returns c =
-    let fence = c .before .before in
-    let steps = fence .before .before .before .before .before in
+    let ceiling = c .before .before in
+    let steps = ceiling .before .before .before .before .before in
     let size = steps .before .before .before .before .before in
     let state = size .before .before .before .before in
     put-then
     (put-then (put-then (state .put-state .ensures) (size .put-size .ensures)) (steps .put-number-line .ensures))
-    (fence .put-number-line2 .ensures)
+    (ceiling .put-number-line2 .ensures)
 
 pub put-head-spec : {M : Type 1} → statement M
 put-head-spec =
