@@ -1,0 +1,46 @@
+//! Graphs that map onto themselves whole: paths of as many pairs as there are vertices, up to 64,
+//! where the words of a node's level end.
+
+use harness::answer::Answer;
+use harness::cases::{graph, Style};
+use harness::random::Random;
+use harness::reference::{Checkpoint, CHECKPOINT_BYTES, WORKSPACE_WORDS};
+use harness::{library, reference};
+
+type Resume = fn(&[u8], &[u8], &[u8], u64, &mut [u64], &mut [u8]) -> Answer;
+
+/// The answers of calls with these budgets, one after the other, and each call's checkpoint.
+fn calls(resume: Resume, graph: &[u8], budgets: [u64; 4]) -> Vec<(Answer, Vec<u8>)> {
+    let mut checkpoint = Checkpoint::fresh(0).save();
+    let mut made = Vec::new();
+    for budget in budgets {
+        let mut workspace = vec![9; WORKSPACE_WORDS];
+        let mut next = vec![0; CHECKPOINT_BYTES];
+        let answer = resume(graph, graph, &checkpoint, budget, &mut workspace, &mut next);
+        assert!(answer.is_accepted());
+        assert!(workspace.iter().all(|&word| word == 0));
+        next.truncate(answer.value as usize);
+        made.push((answer, next.clone()));
+        checkpoint = next;
+    }
+    made
+}
+
+#[test]
+fn every_vertex_is_paired() {
+    for order in [0, 1, 2, 62, 63, 64] {
+        let style = Style {
+            vertex_labels: vec![1],
+            edge_labels: vec![1],
+            density: 100,
+        };
+        let graph = graph(&mut Random::new(0), &style, order).save();
+        // up to the first full path, over it, and back down the other choices
+        let budgets = [order as u64, 1, 1, 200];
+        assert_eq!(
+            calls(library::resume, &graph, budgets),
+            calls(reference::resume, &graph, budgets),
+            "{order} vertices"
+        );
+    }
+}
