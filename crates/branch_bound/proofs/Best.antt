@@ -14,7 +14,7 @@ use Rattle.branch_bound.proofs.Invariant.{Beaten, Invariant, invariant-
 
 module _ (T : Tree) (minimum : ℕ) (before : T .Node → T .Node → Type 0) (root : T .Node) where
   -- what a finished state holds is best, if the invariant holds
-  invariant-best : (x : State T) → Invariant T minimum before root x → x .nodes ≡ [] → Best T minimum before root (x .held)
+  invariant-best : (x : State T) → Invariant T minimum before root x → x .nodes ≡ [] → Best T minimum before root (x .incumbent)
   invariant-best x I e = record {
     candidate = I .candidate;
     none-reaches = λ is-none s u a. rw is-none at (beaten s u a);
@@ -22,7 +22,7 @@ module _ (T : Tree) (minimum : ℕ) (before : T .Node → T .Node → Type 0) (r
     first = λ h is-some s u a. (rw is-some at (beaten s u a)) .1;
   }
     where
-      beaten : (s : T .Node) → Under T root s → T .admits s ≡ true → Beaten T minimum before (x .held) s
+      beaten : (s : T .Node) → Under T root s → T .admits s ≡ true → Beaten T minimum before (x .incumbent) s
       beaten s u a = ⊎-elim (λ (v : UnderOne T (x .nodes) s). absurd (under-none (rw e at v))) (λ b. b) (I .covers s u a)
 
   -- There is one best: where no two solutions come before each other, two that are best are the same.
@@ -51,9 +51,9 @@ module _ (T : Tree) (minimum : ℕ) (before : T .Node → T .Node → Type 0) (r
 
 module _ {T : Tree} {weight : T .Node → ℕ} {before : T .Node → T .Node → Type 0} (L : Lawful T weight before) (minimum : ℕ) (root : T .Node) where
   -- What is held is at every step a solution under the root that may be held and reaches the minimum.
-  pub held-candidate : (k : ℕ) (h : T .Node) → after T minimum root k .held ≡ some h → Candidate T minimum root h
-  held-candidate k = invariant-after L minimum root k .candidate
+  pub incumbent-candidate : (k : ℕ) (h : T .Node) → after T minimum root k .incumbent ≡ some h → Candidate T minimum root h
+  incumbent-candidate k = invariant-after L minimum root k .candidate
 
   -- Once no node is open, what is held is best.
-  pub finished-best : (k : ℕ) → after T minimum root k .nodes ≡ [] → Best T minimum before root (after T minimum root k .held)
+  pub finished-best : (k : ℕ) → after T minimum root k .nodes ≡ [] → Best T minimum before root (after T minimum root k .incumbent)
   finished-best k = invariant-best T minimum before root (after T minimum root k) (invariant-after L minimum root k)

@@ -31,9 +31,9 @@ module _ (T : Tree) where
 
 module _ {T : Tree} {weight : T .Node → ℕ} {before : T .Node → T .Node → Type 0} (L : Lawful T weight before) (minimum : ℕ) where
   -- No step lowers the cutoff.
-  pub cutoff-step : (s : State T) → cutoff T minimum (s .held) ≤ cutoff T minimum (step T minimum s .held)
-  cutoff-step = step-cases T minimum (λ s next. cutoff T minimum (s .held) ≤ cutoff T minimum (next .held)) (λ held. omega arith)
-      (λ held n rest. record {
+  pub cutoff-step : (s : State T) → cutoff T minimum (s .incumbent) ≤ cutoff T minimum (step T minimum s .incumbent)
+  cutoff-step = step-cases T minimum (λ s next. cutoff T minimum (s .incumbent) ≤ cutoff T minimum (next .incumbent)) (λ incumbent. omega arith)
+      (λ incumbent n rest. record {
         dropped = λ low. omega arith;
         refused = λ reach final unfit. omega arith;
         taken = λ reach final fit. omega (arith, L .bound-last n final);
@@ -43,8 +43,8 @@ module _ {T : Tree} {weight : T .Node → ℕ} {before : T .Node → T .Node →
   -- No step raises the ceiling.
   pub ceiling-step : (s : State T) → ceiling T minimum (step T minimum s) ≤ ceiling T minimum s
   unfolding ceiling topBound
-  ceiling-step = step-cases T minimum (λ s next. ceiling T minimum next ≤ ceiling T minimum s) (λ held. omega arith)
-      (λ held n rest. record {
+  ceiling-step = step-cases T minimum (λ s next. ceiling T minimum next ≤ ceiling T minimum s) (λ incumbent. omega arith)
+      (λ incumbent n rest. record {
         dropped = λ low. omega arith;
         refused = λ reach final unfit. omega arith;
         taken = λ reach final fit. omega (arith, L .bound-last n final);
@@ -54,8 +54,8 @@ module _ {T : Tree} {weight : T .Node → ℕ} {before : T .Node → T .Node →
 
   module _ (root : T .Node) where
     -- The cutoff never falls.
-    pub cutoff-rises : (k j : ℕ) → k ≤ j → cutoff T minimum (after T minimum root k .held) ≤ cutoff T minimum (after T minimum root j .held)
-    cutoff-rises = after-rises T minimum root (λ s. cutoff T minimum (s .held)) cutoff-step
+    pub cutoff-rises : (k j : ℕ) → k ≤ j → cutoff T minimum (after T minimum root k .incumbent) ≤ cutoff T minimum (after T minimum root j .incumbent)
+    cutoff-rises = after-rises T minimum root (λ s. cutoff T minimum (s .incumbent)) cutoff-step
 
     -- The ceiling never rises.
     pub ceiling-falls : (k j : ℕ) → k ≤ j → ceiling T minimum (after T minimum root j) ≤ ceiling T minimum (after T minimum root k)
@@ -69,8 +69,8 @@ module _ {T : Tree} {weight : T .Node → ℕ} {before : T .Node → T .Node →
         x : State T
         x = after T minimum root k
 
-        is-open : UnderOne T (x .nodes) s → T .size s < max (cutoff T minimum (x .held)) (topBound T (x .nodes))
+        is-open : UnderOne T (x .nodes) s → T .size s < max (cutoff T minimum (x .incumbent)) (topBound T (x .nodes))
         is-open v = omega (arith, under-bound L (v .under), topBound-above T (v .member))
 
-        is-beaten : Beaten T minimum before (x .held) s → T .size s < max (cutoff T minimum (x .held)) (topBound T (x .nodes))
-        is-beaten b = omega (arith, beaten-below T minimum before (x .held) s b)
+        is-beaten : Beaten T minimum before (x .incumbent) s → T .size s < max (cutoff T minimum (x .incumbent)) (topBound T (x .nodes))
+        is-beaten b = omega (arith, beaten-below T minimum before (x .incumbent) s b)

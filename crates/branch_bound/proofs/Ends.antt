@@ -38,8 +38,8 @@ first-exists P decide (suc n) holds = go (decide zero) (first-exists (λ k. P (s
 module _ (T : Tree) (minimum : ℕ) where
   -- A finished state is its own next state.
   pub step-finished : (s : State T) → s .nodes ≡ [] → step T minimum s ≡ s
-  step-finished = step-cases T minimum (λ s next. s .nodes ≡ [] → next ≡ s) (λ held e. refl)
-      (λ held n rest. let busy = cons-ne-nil n rest in record {
+  step-finished = step-cases T minimum (λ s next. s .nodes ≡ [] → next ≡ s) (λ incumbent e. refl)
+      (λ incumbent n rest. let busy = cons-ne-nil n rest in record {
         dropped = λ low e. absurd (busy e);
         refused = λ reach final unfit e. absurd (busy e);
         taken = λ reach final fit e. absurd (busy e);
@@ -82,8 +82,8 @@ module _ {T : Tree} {weight : T .Node → ℕ} {before : T .Node → T .Node →
   pub weights-fall : (s : State T) → (s .nodes ≡ [] → ⊥) → weights T weight (step T minimum s .nodes) < weights T weight (s .nodes)
   unfolding weights
   weights-fall = step-cases T minimum (λ s next. (s .nodes ≡ [] → ⊥) → weights T weight (next .nodes) < weights T weight (s .nodes))
-      (λ held busy. absurd (busy refl))
-      (λ held n rest.
+      (λ incumbent busy. absurd (busy refl))
+      (λ incumbent n rest.
       let one = L .weight-one n in
       record {
         dropped = λ low busy. omega arith;

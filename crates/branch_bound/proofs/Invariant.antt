@@ -34,28 +34,28 @@ module _ (T : Tree) (minimum : ℕ) (before : T .Node → T .Node → Type 0) wh
 
   -- what holds of every state of a search from the root
   pub record Invariant (root : T .Node) (x : State T) : Type 0 where
-    pub candidate : (h : T .Node) → x .held ≡ some h → Candidate T minimum root h
+    pub candidate : (h : T .Node) → x .incumbent ≡ some h → Candidate T minimum root h
     pub in-order : InOrder T before (x .nodes)
     -- the solutions under the open nodes are under the root
     pub inside : (s : T .Node) → UnderOne T (x .nodes) s → Under T root s
     -- and the incumbent comes before them
-    pub ahead : (h s : T .Node) → x .held ≡ some h → UnderOne T (x .nodes) s → before h s
+    pub ahead : (h s : T .Node) → x .incumbent ≡ some h → UnderOne T (x .nodes) s → before h s
     -- each solution that may be held is still under an open node, or beaten
-    pub covers : (s : T .Node) → Under T root s → T .admits s ≡ true → UnderOne T (x .nodes) s ⊎ Beaten (x .held) s
+    pub covers : (s : T .Node) → Under T root s → T .admits s ≡ true → UnderOne T (x .nodes) s ⊎ Beaten (x .incumbent) s
 
   -- What is beaten is below the cutoff.
-  pub beaten-below : (held : Option (T .Node)) (s : T .Node) → Beaten held s → T .size s < cutoff T minimum held
+  pub beaten-below : (incumbent : Option (T .Node)) (s : T .Node) → Beaten incumbent s → T .size s < cutoff T minimum incumbent
   beaten-below none s b = b
   beaten-below (some h) s b = omega arith
 
   -- what is below the cutoff and after the incumbent is beaten
-  below-beaten : (held : Option (T .Node)) (s : T .Node) → T .size s < cutoff T minimum held → ((h : T .Node) → held ≡ some h → before h s)
-      → Beaten held s
+  below-beaten : (incumbent : Option (T .Node)) (s : T .Node) → T .size s < cutoff T minimum incumbent → ((h : T .Node) → incumbent ≡ some h → before h s)
+      → Beaten incumbent s
   below-beaten none s low ahead = low
   below-beaten (some h) s low ahead = (omega arith, λ e. inr (ahead h refl))
 
   -- the cutoff is at least the minimum
-  minimum-cutoff : (held : Option (T .Node)) → ((h : T .Node) → held ≡ some h → minimum ≤ T .size h) → minimum ≤ cutoff T minimum held
+  minimum-cutoff : (incumbent : Option (T .Node)) → ((h : T .Node) → incumbent ≡ some h → minimum ≤ T .size h) → minimum ≤ cutoff T minimum incumbent
   minimum-cutoff none reaches = omega arith
   minimum-cutoff (some h) reaches = omega (arith, reaches h refl)
 
@@ -69,10 +69,10 @@ module _ (T : Tree) (minimum : ℕ) (before : T .Node → T .Node → Type 0) wh
   }
 
 module _ {T : Tree} {weight : T .Node → ℕ} {before : T .Node → T .Node → Type 0} (L : Lawful T weight before) (minimum : ℕ) (root : T .Node) where
-  module _ (held : Option (T .Node)) (n : T .Node) (rest : List (T .Node)) (I : Invariant T minimum before root (state T (n ∷ rest) held)) where
+  module _ (incumbent : Option (T .Node)) (n : T .Node) (rest : List (T .Node)) (I : Invariant T minimum before root (state T (n ∷ rest) incumbent)) where
     -- the visited node n may go where all that is under it is beaten
-    closed : ((s : T .Node) → Under T n s → T .admits s ≡ true → Beaten T minimum before held s)
-        → Invariant T minimum before root (state T rest held)
+    closed : ((s : T .Node) → Under T n s → T .admits s ≡ true → Beaten T minimum before incumbent s)
+        → Invariant T minimum before root (state T rest incumbent)
     closed beaten = record {
       candidate = I .candidate;
       in-order = I .in-order .1;
@@ -81,18 +81,18 @@ module _ {T : Tree} {weight : T .Node → ℕ} {before : T .Node → T .Node →
       covers = λ s u a. ⊎-elim (λ v. ⊎-elim (λ w. inr (beaten s w a)) (λ w. inl w) (under-cons v)) (λ b. inr b) (I .covers s u a);
     }
 
-    dropped : T .bound n < cutoff T minimum held → Invariant T minimum before root (state T rest held)
-    dropped low = closed λ s u a. below-beaten T minimum before held s (omega (arith, under-bound L u)) (λ h e. I .ahead h s e (under-head u))
+    dropped : T .bound n < cutoff T minimum incumbent → Invariant T minimum before root (state T rest incumbent)
+    dropped low = closed λ s u a. below-beaten T minimum before incumbent s (omega (arith, under-bound L u)) (λ h e. I .ahead h s e (under-head u))
 
-    refused : T .last n ≡ true → T .admits n ≡ false → Invariant T minimum before root (state T rest held)
+    refused : T .last n ≡ true → T .admits n ≡ false → Invariant T minimum before root (state T rest incumbent)
     refused final unfit = closed λ s u a. absurd (true≢false (sym a ∙ (rw (under-last final u) unfit)))
 
-    taken : cutoff T minimum held ≤ T .bound n → T .last n ≡ true → T .admits n ≡ true → Invariant T minimum before root (state T rest (some n))
+    taken : cutoff T minimum incumbent ≤ T .bound n → T .last n ≡ true → T .admits n ≡ true → Invariant T minimum before root (state T rest (some n))
     taken reach final fit = record {
       candidate = λ h e. rw (← Option·some-injective n h e) (record {
         under = I .inside n (under-head (here final));
         admitted = fit;
-        reaches = omega (arith, size-bound, minimum-cutoff T minimum before held (λ h e. I .candidate h e .reaches));
+        reaches = omega (arith, size-bound, minimum-cutoff T minimum before incumbent (λ h e. I .candidate h e .reaches));
       });
       in-order = I .in-order .1;
       inside = λ s u. I .inside s (under-tail u);
@@ -107,12 +107,12 @@ module _ {T : Tree} {weight : T .Node → ℕ} {before : T .Node → T .Node →
         itself : (s : T .Node) → s ≡ n → Beaten T minimum before (some n) s
         itself s e = (rw e (omega arith), λ same. inl e)
 
-        smaller : (s : T .Node) → Beaten T minimum before held s → Beaten T minimum before (some n) s
+        smaller : (s : T .Node) → Beaten T minimum before incumbent s → Beaten T minimum before (some n) s
         smaller s b =
-            let low : T .size s < T .size n = omega (arith, size-bound, beaten-below T minimum before held s b) in
+            let low : T .size s < T .size n = omega (arith, size-bound, beaten-below T minimum before incumbent s b) in
             (omega arith, λ same. absurd (omega arith))
 
-    opened : T .last n ≡ false → Invariant T minimum before root (state T (T .children n ++ rest) held)
+    opened : T .last n ≡ false → Invariant T minimum before root (state T (T .children n ++ rest) incumbent)
     opened inner = record {
       candidate = I .candidate;
       in-order = inOrder-append (T .children n) rest (children-in-order L n inner) (I .in-order .1)
@@ -124,12 +124,12 @@ module _ {T : Tree} {weight : T .Node → ℕ} {before : T .Node → T .Node →
 
   -- Every step keeps the invariant.
   pub invariant-step : (x : State T) → Invariant T minimum before root x → Invariant T minimum before root (step T minimum x)
-  invariant-step = step-cases T minimum (λ x next. Invariant T minimum before root x → Invariant T minimum before root next) (λ held I. I)
-      (λ held n rest. record {
-        dropped = λ low I. dropped held n rest I low;
-        refused = λ reach final unfit I. refused held n rest I final unfit;
-        taken = λ reach final fit I. taken held n rest I reach final fit;
-        opened = λ reach inner I. opened held n rest I inner;
+  invariant-step = step-cases T minimum (λ x next. Invariant T minimum before root x → Invariant T minimum before root next) (λ incumbent I. I)
+      (λ incumbent n rest. record {
+        dropped = λ low I. dropped incumbent n rest I low;
+        refused = λ reach final unfit I. refused incumbent n rest I final unfit;
+        taken = λ reach final fit I. taken incumbent n rest I reach final fit;
+        opened = λ reach inner I. opened incumbent n rest I inner;
       })
 
   -- The invariant holds after every number of steps.

@@ -14,26 +14,26 @@ use Rattle.branch_bound.specs.Search.{State, state, cutoff, visitNode, s
 
 module _ (T : Tree) (minimum : ℕ) where
   -- R holds of the next state, whatever becomes of the visited node n
-  pub record Outcomes (R : State T → Type 0) (held : Option (T .Node)) (n : T .Node) (rest : List (T .Node)) : Type 0 where
+  pub record Outcomes (R : State T → Type 0) (incumbent : Option (T .Node)) (n : T .Node) (rest : List (T .Node)) : Type 0 where
     -- it cannot reach the cutoff
-    pub dropped : T .bound n < cutoff T minimum held → R (state T rest held)
+    pub dropped : T .bound n < cutoff T minimum incumbent → R (state T rest incumbent)
     -- it is a solution that may not be held
-    pub refused : cutoff T minimum held ≤ T .bound n → T .last n ≡ true → T .admits n ≡ false → R (state T rest held)
+    pub refused : cutoff T minimum incumbent ≤ T .bound n → T .last n ≡ true → T .admits n ≡ false → R (state T rest incumbent)
     -- it is a solution that may be held
-    pub taken : cutoff T minimum held ≤ T .bound n → T .last n ≡ true → T .admits n ≡ true → R (state T rest (some n))
+    pub taken : cutoff T minimum incumbent ≤ T .bound n → T .last n ≡ true → T .admits n ≡ true → R (state T rest (some n))
     -- it is no solution
-    pub opened : cutoff T minimum held ≤ T .bound n → T .last n ≡ false → R (state T (T .children n ++ rest) held)
+    pub opened : cutoff T minimum incumbent ≤ T .bound n → T .last n ≡ false → R (state T (T .children n ++ rest) incumbent)
 
   -- What holds of each outcome of a visit holds after the visit.
-  pub visit-cases : (R : State T → Type 0) (held : Option (T .Node)) (n : T .Node) (rest : List (T .Node))
-      → Outcomes R held n rest → R (visitNode T minimum held n rest)
-  visit-cases R held n rest o =
-      go (ltb (T .bound n) (cutoff T minimum held)) (T .last n) (T .admits n) refl refl refl
+  pub visit-cases : (R : State T → Type 0) (incumbent : Option (T .Node)) (n : T .Node) (rest : List (T .Node))
+      → Outcomes R incumbent n rest → R (visitNode T minimum incumbent n rest)
+  visit-cases R incumbent n rest o =
+      go (ltb (T .bound n) (cutoff T minimum incumbent)) (T .last n) (T .admits n) refl refl refl
     where
-      go : (low final fit : Bool) → ltb (T .bound n) (cutoff T minimum held) ≡ low → T .last n ≡ final → T .admits n ≡ fit
-          → R (cond low (state T rest held)
-          (cond final (state T rest (cond fit (some n) held))
-          (state T (T .children n ++ rest) held)))
+      go : (low final fit : Bool) → ltb (T .bound n) (cutoff T minimum incumbent) ≡ low → T .last n ≡ final → T .admits n ≡ fit
+          → R (cond low (state T rest incumbent)
+          (cond final (state T rest (cond fit (some n) incumbent))
+          (state T (T .children n ++ rest) incumbent)))
       go true final fit p q r = o .dropped (ltb-true _ _ p)
       go false true true p q r = o .taken (ltb-false _ _ p) q r
       go false true false p q r = o .refused (ltb-false _ _ p) q r
@@ -41,14 +41,14 @@ module _ (T : Tree) (minimum : ℕ) where
 
   -- What relates a finished state to itself, and a state with an open node to each outcome of its visit, relates each state to the next.
   pub step-cases : (R : State T → State T → Type 0)
-      → ((held : Option (T .Node)) → R (state T [] held) (state T [] held))
-      → ((held : Option (T .Node)) (n : T .Node) (rest : List (T .Node)) → Outcomes (R (state T (n ∷ rest) held)) held n rest)
+      → ((incumbent : Option (T .Node)) → R (state T [] incumbent) (state T [] incumbent))
+      → ((incumbent : Option (T .Node)) (n : T .Node) (rest : List (T .Node)) → Outcomes (R (state T (n ∷ rest) incumbent)) incumbent n rest)
       → (s : State T) → R s (step T minimum s)
-  step-cases R finished visited s = go (s .nodes) (s .held)
+  step-cases R finished visited s = go (s .nodes) (s .incumbent)
     where
-      go : (nodes : List (T .Node)) (held : Option (T .Node)) → R (state T nodes held) (stepOn T minimum held nodes)
-      go [] held = finished held
-      go (n ∷ rest) held = visit-cases (R (state T (n ∷ rest) held)) held n rest (visited held n rest)
+      go : (nodes : List (T .Node)) (incumbent : Option (T .Node)) → R (state T nodes incumbent) (stepOn T minimum incumbent nodes)
+      go [] incumbent = finished incumbent
+      go (n ∷ rest) incumbent = visit-cases (R (state T (n ∷ rest) incumbent)) incumbent n rest (visited incumbent n rest)
 
   module _ (root : T .Node) where
     -- The state after one more step is the step of the state.

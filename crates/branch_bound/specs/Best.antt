@@ -13,12 +13,12 @@ module _ (T : Tree) (minimum : ℕ) where
     pub admitted : T .admits h ≡ true
     pub reaches : minimum ≤ T .size h
 
-  pub record Best (before : T .Node → T .Node → Type 0) (root : T .Node) (held : Option (T .Node)) : Type 0 where
-    pub candidate : (h : T .Node) → held ≡ some h → Candidate root h
+  pub record Best (before : T .Node → T .Node → Type 0) (root : T .Node) (incumbent : Option (T .Node)) : Type 0 where
+    pub candidate : (h : T .Node) → incumbent ≡ some h → Candidate root h
     -- where nothing is held, no solution that may be held reaches the minimum
-    pub none-reaches : held ≡ none → (s : T .Node) → Under T root s → T .admits s ≡ true → T .size s < minimum
+    pub none-reaches : incumbent ≡ none → (s : T .Node) → Under T root s → T .admits s ≡ true → T .size s < minimum
     -- none is larger than the one held
-    pub largest : (h : T .Node) → held ≡ some h → (s : T .Node) → Under T root s → T .admits s ≡ true → T .size s ≤ T .size h
+    pub largest : (h : T .Node) → incumbent ≡ some h → (s : T .Node) → Under T root s → T .admits s ≡ true → T .size s ≤ T .size h
     -- and of those as large it is the first
-    pub first : (h : T .Node) → held ≡ some h → (s : T .Node) → Under T root s → T .admits s ≡ true → T .size s ≡ T .size h
+    pub first : (h : T .Node) → incumbent ≡ some h → (s : T .Node) → Under T root s → T .admits s ≡ true → T .size s ≡ T .size h
         → (s ≡ h) ⊎ before h s

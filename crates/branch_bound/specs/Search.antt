@@ -11,11 +11,11 @@ module _ (T : Tree) where
   pub record State : Type 0 where
     -- the open nodes, the next one first
     pub nodes : List (T .Node)
-    -- the incumbent: the best solution found so far
-    pub held : Option (T .Node)
+    -- the best solution found so far
+    pub incumbent : Option (T .Node)
 
   abbrev pub state : List (T .Node) → Option (T .Node) → State
-  state nodes held = record { nodes = nodes; held = held }
+  state nodes incumbent = record { nodes = nodes; incumbent = incumbent }
 
   -- what a node must reach: one more than the incumbent, or the minimum
   abbrev pub cutoff : ℕ → Option (T .Node) → ℕ
@@ -24,17 +24,17 @@ module _ (T : Tree) where
 
   -- the first open node is visited: dropped below the cutoff; held if it is a solution that may be held; else its children take its place
   abbrev pub visitNode : ℕ → Option (T .Node) → T .Node → List (T .Node) → State
-  visitNode minimum held n rest =
-      cond (ltb (T .bound n) (cutoff minimum held)) (state rest held)
-      (cond (T .last n) (state rest (cond (T .admits n) (some n) held))
-      (state (T .children n ++ rest) held))
+  visitNode minimum incumbent n rest =
+      cond (ltb (T .bound n) (cutoff minimum incumbent)) (state rest incumbent)
+      (cond (T .last n) (state rest (cond (T .admits n) (some n) incumbent))
+      (state (T .children n ++ rest) incumbent))
 
   abbrev pub stepOn : ℕ → Option (T .Node) → List (T .Node) → State
-  stepOn minimum held [] = state [] held
-  stepOn minimum held (n ∷ rest) = visitNode minimum held n rest
+  stepOn minimum incumbent [] = state [] incumbent
+  stepOn minimum incumbent (n ∷ rest) = visitNode minimum incumbent n rest
 
   abbrev pub step : ℕ → State → State
-  step minimum s = stepOn minimum (s .held) (s .nodes)
+  step minimum s = stepOn minimum (s .incumbent) (s .nodes)
 
   unfoldable pub after : ℕ → T .Node → ℕ → State
   after minimum root zero = state (root ∷ []) none
@@ -47,7 +47,7 @@ module _ (T : Tree) where
 
   -- above every solution that may be held
   unfoldable pub ceiling : ℕ → State → ℕ
-  ceiling minimum s = max (cutoff minimum (s .held)) (topBound (s .nodes))
+  ceiling minimum s = max (cutoff minimum (s .incumbent)) (topBound (s .nodes))
 
   -- finished after t steps and after no fewer
   pub record IsTotal (minimum : ℕ) (root : T .Node) (t : ℕ) : Type 0 where

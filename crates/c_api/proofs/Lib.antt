@@ -1,5 +1,4 @@
-pub mod ReadTables
-pub mod CallArms
+pub mod ReadArms
 pub mod NoVisitLost
 pub mod RefusalNumbers
-pub mod ResumeCourse
+pub mod ResumedCall

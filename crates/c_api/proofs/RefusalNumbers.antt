@@ -1,32 +1,34 @@
--- Loading and a search call refuse by one of 01's numbers, as reading a graph does (graph's RefusalNumbers).
+-- Loading and a search call refuse by one of 01's numbers, as reading a graph does (graph_reader's RefusalNumbers).
+use mathlib.Core.Path.{_≡_, refl}
 use mathlib.Core.Bool.{cond}
 use mathlib.Core.List.{List}
 use mathlib.Core.Option.{Option, none, some}
-use mathlib.Core.Path.{_≡_, refl}
 use Prim.Native.Nat.{ℕ}
 use native.Mathlib.Omega.{arith}
 use lib.Dec.{leb}
 use lib.ListN.{length}
-use Rattle.graph.specs.Answers.{Answer, passed, accepted, refused, refusedAt}
-use Rattle.graph.proofs.Choice.{either}
-use Rattle.graph.proofs.RefusalNumbers.{RefusalNumber, Plain}
-use Rattle.mapping.specs.Problem.{Problem, problemAnswer}
-use Rattle.mapping.proofs.ProblemPasses.{problem-plain}
-use Rattle.search.specs.declared.Checkpoint.{Checkpoint}
+use Rattle.answers.specs.Answer.{Answer, passed, accepted, refused, refusedAt, whenPassed}
+use Rattle.answers.proofs.Choice.{either}
+use Rattle.answers.proofs.RefusalNumbers.{RefusalNumber, Plain}
+use Rattle.problem.specs.Problem.{Problem, problemAnswer}
+use Rattle.problem.proofs.ProblemPasses.{problem-plain}
+use Rattle.search.specs.declared.checkpoint.Checkpoint.{Checkpoint}
 use Rattle.search.specs.Checkpoints.{inShape}
-use Rattle.search.specs.Call.{Called, wordsNeeded, refuse, advance, countFits, onSound, searchCall}
+use Rattle.search.specs.Checking.{checkpointAnswer}
+use Rattle.search.specs.Call.{Called, wordsNeeded, refuse, advance, countFits, onPassed, searchCall}
+use Rattle.search.proofs.CheckpointPasses.{checkpoint-plain}
 use Rattle.checkpoint_bytes.specs.Form.{formFault}
-use Rattle.checkpoint_bytes.specs.Loading.{Loading, said, onSound as loadOnSound, onForm, loading}
+use Rattle.checkpoint_bytes.specs.Loading.{Loading, said, refuse as refuseLoad, onForm, loading}
 
 -- Loading passes, or refuses by such a number.
 pub loading-plain : (P : Problem) (bytes : List ℕ) → Plain (loading P bytes .answer)
 unfolding loading
 loading-plain P bytes = go (problemAnswer P) (problem-plain P) (formFault (P .old .order) bytes)
   where
-    go : (a : Answer) → Plain a → (fault : Option ℕ) → Plain (loadOnSound a (onForm P bytes fault) .answer)
+    go : (a : Answer) → Plain a → (fault : Option ℕ) → Plain (whenPassed a (onForm P bytes fault) refuseLoad .answer)
     go passed h none = either (λ (l : Loading). Plain (l .answer)) (inShape P (said (P .old .order) bytes)) tt (omega arith)
     go passed h (some at) = omega arith
-    go (accepted n) h fault = h
+    go (accepted n) h fault = absurd h
     go (refused n) h fault = h
     go (refusedAt n at) h fault = h
 
@@ -41,23 +43,19 @@ Kept workspace (refusedAt number at) later = RefusalNumber number × (later ≡ 
 pub search-kept : (P : Problem) (c : Checkpoint) (budget : ℕ) (workspace : List ℕ)
     → let r = searchCall P c budget workspace in Kept workspace (r .answer) (r .workspace)
 unfolding searchCall advance
-search-kept P c budget workspace = go (problemAnswer P) (problem-plain P)
+search-kept P c budget workspace = go (checkpointAnswer P c) (checkpoint-plain P c)
   where
     Keeps : Called → Type 0
     Keeps r = Kept workspace (r .answer) (r .workspace)
 
     go : (a : Answer) → Plain a
-        → Keeps (onSound a
-        (cond (inShape P c)
+        → Keeps (onPassed a
         (cond (leb wordsNeeded (length workspace))
         (cond (countFits c budget) (advance P c budget workspace) (refuse c workspace 16))
         (refuse c workspace 15))
-        (refuse c workspace 14))
         (refuse c workspace))
     go passed h =
-        either Keeps (inShape P c)
-        (either Keeps (leb wordsNeeded (length workspace)) (either Keeps (countFits c budget) tt (omega arith, refl)) (omega arith, refl))
-        (omega arith, refl)
+        either Keeps (leb wordsNeeded (length workspace)) (either Keeps (countFits c budget) tt (omega arith, refl)) (omega arith, refl)
     go (accepted n) h = absurd h
     go (refused n) h = (h, refl)
     go (refusedAt n at) h = (h, refl)

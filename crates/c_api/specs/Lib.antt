@@ -1,5 +1,4 @@
-pub mod Told
-pub mod Graphs
 pub mod Checks
 pub mod Calls
-pub mod Course
+pub mod ReadOut
+pub mod ResumedCall

@@ -1,27 +1,29 @@
 // What C, Rust or Python links: exported functions on numbers and byte slices, over graph bytes and checkpoint bytes. include/golfcedar.h declares them.
 
-mod calls;
-mod graphs;
-mod outs;
-mod told;
-
-use graphs::Graphs;
+use checkpoint_bytes::MAX_BYTES;
+use graph::EDGE_BYTES;
+use graph::MAX_ORDER;
+use problem_reader::ProblemRead;
 use search::Checkpoint;
 ghost use mathlib.Core.Path.{_≡_};
-ghost use Rattle.c_api.specs.Told.{tell};
-ghost use Rattle.c_api.specs.Checks.{checkingGraph, checked, checkingMapping};
-ghost use Rattle.c_api.specs.Calls.{started, starting, resumed, resuming, readOutOf, readingOut};
+ghost use Rattle.replies.specs.Reply.{reply};
+ghost use Rattle.replies.specs.Checked.{checked};
+ghost use Rattle.replies.specs.Resumed.{resumed};
+ghost use Rattle.replies.specs.ReadOut.{readOut};
+ghost use Rattle.c_api.specs.Checks.{checkingGraph, checkingMapping};
+ghost use Rattle.c_api.specs.Calls.{started, starting, resuming};
+ghost use Rattle.c_api.specs.ReadOut.{readingOut};
 
 // Whether the bytes are a graph.
 #[no_mangle]
 pub extern "C" fn golfcedar_check_graph(graph: &[u8], value: &mut u64) -> u32
-    ensures { λ r. ⌜ tell r (now (value .exit)) ≡ checkingGraph (now (graph .entry)) ⌝ }
+    ensures { λ r. ⌜ reply r (now (value .exit)) ≡ checkingGraph (now (graph .entry)) ⌝ }
 {
-    let mut labels = [0u8; 64];
-    let mut edges = [0u8; 4096];
-    let told = told::of_read(graph::read_graph(graph, &mut labels, &mut edges));
-    *value = told.value;
-    told.number
+    let mut labels = [0u8; MAX_ORDER];
+    let mut edges = [0u8; EDGE_BYTES];
+    let reply = replies::of_read(graph_reader::read_graph(graph, &mut labels, &mut edges));
+    *value = reply.value;
+    reply.number
 }
 
 // Whether the mapping is a common subgraph of the two graphs.
@@ -33,13 +35,14 @@ pub extern "C" fn golfcedar_check_mapping(
     value: &mut u64,
     earlier: &mut u64,
 ) -> u32
-    ensures { λ r. ⌜ checked (tell r (now (value .exit))) (now (earlier .exit)) ≡ checkingMapping (now («old_graph» .entry)) (now («new_graph» .entry)) (now (mapping .entry)) ⌝ }
+    ensures { λ r. ⌜ checked (reply r (now (value .exit))) (now (earlier .exit))
+        ≡ checkingMapping (now («old_graph» .entry)) (now («new_graph» .entry)) (now (mapping .entry)) ⌝ }
 {
-    let mut old_labels = [0u8; 64];
-    let mut old_edges = [0u8; 4096];
-    let mut new_labels = [0u8; 64];
-    let mut new_edges = [0u8; 4096];
-    match graphs::read_graphs(
+    let mut old_labels = [0u8; MAX_ORDER];
+    let mut old_edges = [0u8; EDGE_BYTES];
+    let mut new_labels = [0u8; MAX_ORDER];
+    let mut new_edges = [0u8; EDGE_BYTES];
+    match problem_reader::read_problem(
         old_graph,
         new_graph,
         &mut old_labels,
@@ -47,24 +50,22 @@ pub extern "C" fn golfcedar_check_mapping(
         &mut new_labels,
         &mut new_edges,
     ) {
-        Graphs::Refused(told) => {
-            *value = told.value;
+        ProblemRead::Refused(refusal) => {
+            let reply = replies::of_read(refusal);
+            *value = reply.value;
             *earlier = 0;
-            told.number
+            reply.number
         }
-        Graphs::Read(old_order, new_order) => {
-            let checked = outs::of_mapping(mapping::check_mapping(
-                old_order,
-                &old_labels,
-                &old_edges,
-                new_order,
-                &new_labels,
-                &new_edges,
+        ProblemRead::Orders(old_order, new_order) => {
+            let checked = replies::of_mapping(mapping::check_mapping(
+                [old_order, new_order],
+                [&old_labels, &new_labels],
+                [&old_edges, &new_edges],
                 mapping,
             ));
-            *value = checked.told.value;
+            *value = checked.reply.value;
             *earlier = checked.earlier;
-            checked.told.number
+            checked.reply.number
         }
     }
 }
@@ -78,17 +79,18 @@ pub extern "C" fn golfcedar_start(
     checkpoint: &mut [u8],
     value: &mut u64,
 ) -> u32
-    ensures { λ r. ⌜ started (tell r (now (value .exit))) (now (checkpoint .exit)) ≡ starting (now («old_graph» .entry)) (now («new_graph» .entry)) minimum (now (checkpoint .entry)) ⌝ }
+    ensures { λ r. ⌜ started (reply r (now (value .exit))) (now (checkpoint .exit))
+        ≡ starting (now («old_graph» .entry)) (now («new_graph» .entry)) minimum (now (checkpoint .entry)) ⌝ }
 {
-    if checkpoint.len() < 270 {
+    if checkpoint.len() < MAX_BYTES {
         *value = 0;
         return 13;
     }
-    let mut old_labels = [0u8; 64];
-    let mut old_edges = [0u8; 4096];
-    let mut new_labels = [0u8; 64];
-    let mut new_edges = [0u8; 4096];
-    match graphs::read_graphs(
+    let mut old_labels = [0u8; MAX_ORDER];
+    let mut old_edges = [0u8; EDGE_BYTES];
+    let mut new_labels = [0u8; MAX_ORDER];
+    let mut new_edges = [0u8; EDGE_BYTES];
+    match problem_reader::read_problem(
         old_graph,
         new_graph,
         &mut old_labels,
@@ -96,24 +98,22 @@ pub extern "C" fn golfcedar_start(
         &mut new_labels,
         &mut new_edges,
     ) {
-        Graphs::Refused(told) => {
-            *value = told.value;
-            told.number
+        ProblemRead::Refused(refusal) => {
+            let reply = replies::of_read(refusal);
+            *value = reply.value;
+            reply.number
         }
-        Graphs::Read(old_order, new_order) => {
+        ProblemRead::Orders(old_order, new_order) => {
             let fresh = Checkpoint::fresh(minimum);
-            let told = told::of_save(checkpoint_bytes::save_checkpoint(
-                old_order,
-                &old_labels,
-                &old_edges,
-                new_order,
-                &new_labels,
-                &new_edges,
+            let reply = replies::of_save(checkpoint_bytes::save_checkpoint(
+                [old_order, new_order],
+                [&old_labels, &new_labels],
+                [&old_edges, &new_edges],
                 fresh,
                 checkpoint,
             ));
-            *value = told.value;
-            told.number
+            *value = reply.value;
+            reply.number
         }
     }
 }
@@ -130,18 +130,19 @@ pub extern "C" fn golfcedar_resume(
     value: &mut u64,
     ceiling: &mut u64,
 ) -> u32
-    ensures { λ r. ⌜ resumed (tell r (now (value .exit))) (now (ceiling .exit)) (now (workspace .exit)) (now (next .exit)) ≡ resuming (now («old_graph» .entry)) (now («new_graph» .entry)) (now (checkpoint .entry)) budget (now (workspace .entry)) (now (next .entry)) ⌝ }
+    ensures { λ r. ⌜ resumed (reply r (now (value .exit))) (now (ceiling .exit)) (now (workspace .exit)) (now (next .exit))
+        ≡ resuming (now («old_graph» .entry)) (now («new_graph» .entry)) (now (checkpoint .entry)) budget (now (workspace .entry)) (now (next .entry)) ⌝ }
 {
-    if next.len() < 270 {
+    if next.len() < MAX_BYTES {
         *value = 0;
         *ceiling = 0;
         return 13;
     }
-    let mut old_labels = [0u8; 64];
-    let mut old_edges = [0u8; 4096];
-    let mut new_labels = [0u8; 64];
-    let mut new_edges = [0u8; 4096];
-    match graphs::read_graphs(
+    let mut old_labels = [0u8; MAX_ORDER];
+    let mut old_edges = [0u8; EDGE_BYTES];
+    let mut new_labels = [0u8; MAX_ORDER];
+    let mut new_edges = [0u8; EDGE_BYTES];
+    match problem_reader::read_problem(
         old_graph,
         new_graph,
         &mut old_labels,
@@ -149,27 +150,25 @@ pub extern "C" fn golfcedar_resume(
         &mut new_labels,
         &mut new_edges,
     ) {
-        Graphs::Refused(told) => {
-            *value = told.value;
+        ProblemRead::Refused(refusal) => {
+            let reply = replies::of_read(refusal);
+            *value = reply.value;
             *ceiling = 0;
-            told.number
+            reply.number
         }
-        Graphs::Read(old_order, new_order) => {
-            let reply = calls::load_and_search(
-                old_order,
-                &old_labels,
-                &old_edges,
-                new_order,
-                &new_labels,
-                &new_edges,
+        ProblemRead::Orders(old_order, new_order) => {
+            let resumed = replies::resume(
+                [old_order, new_order],
+                [&old_labels, &new_labels],
+                [&old_edges, &new_edges],
                 checkpoint,
                 budget,
                 workspace,
                 next,
             );
-            *value = reply.told.value;
-            *ceiling = reply.ceiling;
-            reply.told.number
+            *value = resumed.reply.value;
+            *ceiling = resumed.ceiling;
+            resumed.reply.number
         }
     }
 }
@@ -186,20 +185,21 @@ pub extern "C" fn golfcedar_read_out(
     size: &mut u64,
     ceiling: &mut u64,
 ) -> u32
-    ensures { λ r. ⌜ readOutOf (tell r (now (value .exit))) (now (steps .exit)) (now (size .exit)) (now (ceiling .exit)) (now (mapping .exit)) ≡ readingOut (now («old_graph» .entry)) (now («new_graph» .entry)) (now (checkpoint .entry)) (now (mapping .entry)) ⌝ }
+    ensures { λ r. ⌜ readOut (reply r (now (value .exit))) (now (steps .exit)) (now (size .exit)) (now (ceiling .exit)) (now (mapping .exit))
+        ≡ readingOut (now («old_graph» .entry)) (now («new_graph» .entry)) (now (checkpoint .entry)) (now (mapping .entry)) ⌝ }
 {
     *steps = 0;
     *size = 0;
     *ceiling = 0;
-    if mapping.len() < 64 {
+    if mapping.len() < MAX_ORDER {
         *value = 0;
         return 13;
     }
-    let mut old_labels = [0u8; 64];
-    let mut old_edges = [0u8; 4096];
-    let mut new_labels = [0u8; 64];
-    let mut new_edges = [0u8; 4096];
-    match graphs::read_graphs(
+    let mut old_labels = [0u8; MAX_ORDER];
+    let mut old_edges = [0u8; EDGE_BYTES];
+    let mut new_labels = [0u8; MAX_ORDER];
+    let mut new_edges = [0u8; EDGE_BYTES];
+    match problem_reader::read_problem(
         old_graph,
         new_graph,
         &mut old_labels,
@@ -207,26 +207,24 @@ pub extern "C" fn golfcedar_read_out(
         &mut new_labels,
         &mut new_edges,
     ) {
-        Graphs::Refused(told) => {
-            *value = told.value;
-            told.number
+        ProblemRead::Refused(refusal) => {
+            let reply = replies::of_read(refusal);
+            *value = reply.value;
+            reply.number
         }
-        Graphs::Read(old_order, new_order) => {
-            let out = outs::load_and_read(
-                old_order,
-                &old_labels,
-                &old_edges,
-                new_order,
-                &new_labels,
-                &new_edges,
+        ProblemRead::Orders(old_order, new_order) => {
+            let out = replies::read_out(
+                [old_order, new_order],
+                [&old_labels, &new_labels],
+                [&old_edges, &new_edges],
                 checkpoint,
                 mapping,
             );
-            *value = out.told.value;
+            *value = out.reply.value;
             *steps = out.steps;
             *size = out.size;
             *ceiling = out.ceiling;
-            out.told.number
+            out.reply.number
         }
     }
 }

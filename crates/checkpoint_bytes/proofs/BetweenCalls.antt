@@ -2,21 +2,17 @@
 use mathlib.Core.Path.{_≡_, refl, ap, _∙_}
 use mathlib.Core.List.{List, [], _∷_}
 use Prim.Native.Nat.{ℕ}
-use Rattle.mapping.specs.Problem.{Problem, SoundProblem}
-use Rattle.search_tree.specs.Rules.{rulesOf}
+use Rattle.problem.specs.Problem.{Problem, SoundProblem}
+use Rattle.search_tree.specs.Search.{searchOf}
 use Rattle.search_tree.specs.Walk.{IsTotal}
-use Rattle.search.specs.declared.Checkpoint.{Checkpoint}
+use Rattle.search.specs.declared.checkpoint.Checkpoint.{Checkpoint}
 use Rattle.search.specs.Checkpoints.{freshCheckpoint}
 use Rattle.search.specs.Calls.{called, results, leaves}
 use Rattle.search.specs.ThirdProperty.{ThirdProperty}
 use Rattle.search.proofs.ThirdProperty.{third-property, third-property-total}
-use Rattle.checkpoint_bytes.specs.Between.{Sized, SavedCall, callsOf, savedResults, savedLeaves}
+use Rattle.checkpoint_bytes.specs.Between.{Sized, SavedCall, callsOf, savedResults, savedLeaves, SameAsCalls}
 use Rattle.checkpoint_bytes.proofs.SaveLoad.{reloaded-same}
 use Rattle.checkpoint_bytes.proofs.CalledSized.{fresh-sized, called-sized}
-
--- calls with the checkpoint saved and loaded between them give, and leave, what the calls alone do
-abbrev pub SameAsCalls : Problem → Checkpoint → List SavedCall → Type 0
-SameAsCalls P c calls = (savedResults P c calls ≡ results P c (callsOf calls)) × (savedLeaves P c calls ≡ leaves P c (callsOf calls))
 
 module _ (P : Problem) where
   -- So it is from any checkpoint that the code can have, for any two graphs.
@@ -37,14 +33,14 @@ module _ (P : Problem) where
   between minimum = between-from (freshCheckpoint minimum) (fresh-sized minimum)
 
 -- The third property holds of the calls, and with the checkpoint saved and loaded between them nothing is different.
-pub third-property-between : (P : Problem) → SoundProblem P → (minimum t : ℕ) → IsTotal (rulesOf P) minimum t
+pub third-property-between : (P : Problem) → SoundProblem P → (minimum t : ℕ) → IsTotal (searchOf P) minimum t
     → (calls : List SavedCall) → ThirdProperty P minimum t (callsOf calls) × SameAsCalls P (freshCheckpoint minimum) calls
 third-property-between P sound minimum t total calls =
     (third-property P sound minimum t total (callsOf calls), between P minimum calls)
 
 -- The walk has one total, and with it this holds of every list of calls.
 pub third-property-between-total : (P : Problem) → SoundProblem P → (minimum : ℕ)
-    → (t : ℕ) × IsTotal (rulesOf P) minimum t × ((u : ℕ) → IsTotal (rulesOf P) minimum u → u ≡ t)
+    → (t : ℕ) × IsTotal (searchOf P) minimum t × ((u : ℕ) → IsTotal (searchOf P) minimum u → u ≡ t)
     × ((calls : List SavedCall) → ThirdProperty P minimum t (callsOf calls) × SameAsCalls P (freshCheckpoint minimum) calls)
 third-property-between-total P sound minimum =
     let (t, total, unique, property) = third-property-total P sound minimum in

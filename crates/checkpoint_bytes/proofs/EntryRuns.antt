@@ -5,8 +5,8 @@ use Prim.Native.Nat.{ℕ, suc, _+_, _-_, _*_, _≤_, _<_}
 use native.Mathlib.Omega.{arith}
 use lib.ListN.{length, getD, set, replicate, length-append}
 use lib.Seq.{set-at, append-snoc}
-use Rattle.graph.specs.Below.{runBelow}
-use Rattle.graph.proofs.Below.{runBelow-add-one, length-runBelow, sumBelow-same}
+use Rattle.bounded.specs.Below.{runBelow}
+use Rattle.bounded.proofs.Below.{runBelow-add-one, length-runBelow, sumBelow-same}
 use Rattle.search.specs.Checkpoints.{padded}
 use Rattle.checkpoint_bytes.specs.Saving.{entryBytes}
 use Rattle.checkpoint_bytes.specs.Loading.{entries}

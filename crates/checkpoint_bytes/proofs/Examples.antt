@@ -4,10 +4,10 @@ use mathlib.Core.Bool.{true, false}
 use mathlib.Core.List.{List, [], _∷_, _++_}
 use mathlib.Core.Option.{none, some}
 use Prim.Native.Nat.{ℕ}
-use Rattle.graph.specs.Below.{runBelow}
-use Rattle.search.specs.declared.Checkpoint.{Checkpoint}
-use Rattle.search.specs.Checkpoints.{padded}
 use Rattle.little_endian.specs.LittleEndian.{littleEndian, fromLittle}
+use Rattle.bounded.specs.Below.{runBelow}
+use Rattle.search.specs.declared.checkpoint.Checkpoint.{Checkpoint}
+use Rattle.search.specs.Checkpoints.{padded}
 use Rattle.checkpoint_bytes.specs.Form.{next, faultFrom, formFault}
 use Rattle.checkpoint_bytes.specs.Saving.{headerBytes, checkpointBytes}
 use Rattle.checkpoint_bytes.specs.Loading.{said}

@@ -11,7 +11,7 @@ use lib.Dec.{eqb, leb, ltb}
 use lib.ListN.{length, getD, drop, drop-of-length-le}
 use lib.Seq.{drop-cons}
 use Rattle.checkpoint_bytes.specs.declared.form.Stage.{Stage}
-use Rattle.checkpoint_bytes.specs.declared.form.Stage.the-variants.{Header, Path, PathByte, Held, HeldByte, Done}
+use Rattle.checkpoint_bytes.specs.declared.form.Stage.the-variants.{Header, Path, PathByte, Incumbent, IncumbentByte, Done}
 use Rattle.checkpoint_bytes.specs.Form.{stageIf, orStage, next, holdsOf, isDone, faultFrom, formFault, count}
 
 -- the number that a stage carries, where there is one
@@ -41,13 +41,13 @@ next-count n (Header i) b =
     cond-count _ (eqb i 12) (leb b 3) (Path (holdsOf b) 0) (some (Header (i + 1))) (λ e. omega arith) (omega arith))))
 next-count n (Path holds k) b =
     or-count _ (eqb b 19 && ltb k n) (PathByte holds k) _ (omega arith) (
-    or-count _ (eqb b 20 && holds && ltb 0 n) (HeldByte 0) _ (omega arith) (
+    or-count _ (eqb b 20 && holds && ltb 0 n) (IncumbentByte 0) _ (omega arith) (
     if-count _ (eqb b 0 && not (holds && ltb 0 n)) Done (omega arith)))
 next-count n (PathByte holds k) b = omega arith
-next-count n (Held k) b =
-    cond-count _ (ltb k n) (eqb b 20) (HeldByte k) _ (λ e. omega arith) (
+next-count n (Incumbent k) b =
+    cond-count _ (ltb k n) (eqb b 20) (IncumbentByte k) _ (λ e. omega arith) (
     if-count _ (eqb b 0) Done (omega arith))
-next-count n (HeldByte k) b = omega arith
+next-count n (IncumbentByte k) b = omega arith
 next-count n Done b = omega arith
 
 -- The invariant: from the stage and the place reached, the rest has the fault that the whole has.

@@ -10,10 +10,10 @@ use lib.Dec.{eqb, leb, ltb}
 use lib.ListN.{getD, drop, length-drop}
 use lib.Seq.{getD-drop}
 use borrow.Author.Tests.{eqb-false, lt-ltb, le-ltb, ltb-true}
-use Rattle.graph.specs.Below.{allBelow}
-use Rattle.graph.proofs.AllBelow.{allBelow-true}
+use Rattle.bounded.specs.Below.{allBelow}
+use Rattle.bounded.proofs.AllBelow.{allBelow-true}
 use Rattle.checkpoint_bytes.specs.declared.form.Stage.{Stage}
-use Rattle.checkpoint_bytes.specs.declared.form.Stage.the-variants.{Header, Path, PathByte, Held, HeldByte, Done}
+use Rattle.checkpoint_bytes.specs.declared.form.Stage.the-variants.{Header, Path, PathByte, Incumbent, IncumbentByte, Done}
 use Rattle.checkpoint_bytes.specs.Form.{stageIf, orStage, holdsOf, next, faultFrom}
 use Rattle.checkpoint_bytes.specs.FaultPlace.{Bytes}
 use Rattle.checkpoint_bytes.proofs.FormWalk.{Ends, ended, byte, faultless-ends}
@@ -53,16 +53,16 @@ module _ {n : ℕ} where
   done = record { rest = []; rest-bytes = λ i h. absurd (omega arith); leads = ended }
 
   -- the entries of a mapping that are left, all 0, and the end
-  complete-held : (m k : ℕ) → m ≡ n - k → Completion n (Held k)
+  complete-incumbent : (m k : ℕ) → m ≡ n - k → Completion n (Incumbent k)
   unfolding next
-  complete-held zero k e = in-front (Held k) 0 Done (omega arith) (rw (le-ltb k n (omega arith))) done
-  complete-held (suc m) k e =
-      in-front (Held k) 20 (HeldByte k) (omega arith) (rw (lt-ltb k n (omega arith)))
-      (in-front (HeldByte k) 0 (Held (k + 1)) (omega arith) refl (complete-held m (k + 1) (omega arith)))
+  complete-incumbent zero k e = in-front (Incumbent k) 0 Done (omega arith) (rw (le-ltb k n (omega arith))) done
+  complete-incumbent (suc m) k e =
+      in-front (Incumbent k) 20 (IncumbentByte k) (omega arith) (rw (lt-ltb k n (omega arith)))
+      (in-front (IncumbentByte k) 0 (Incumbent (k + 1)) (omega arith) refl (complete-incumbent m (k + 1) (omega arith)))
 
-  held-byte : (k : ℕ) → Completion n (HeldByte k)
+  incumbent-byte : (k : ℕ) → Completion n (IncumbentByte k)
   unfolding next
-  held-byte k = in-front (HeldByte k) 0 (Held (k + 1)) (omega arith) refl (complete-held (n - (k + 1)) (k + 1) refl)
+  incumbent-byte k = in-front (IncumbentByte k) 0 (Incumbent (k + 1)) (omega arith) refl (complete-incumbent (n - (k + 1)) (k + 1) refl)
 
   -- no entry of a path more, a mapping if one is held, and the end
   complete-path : (holds : Bool) (k : ℕ) → Completion n (Path holds k)
@@ -71,7 +71,7 @@ module _ {n : ℕ} where
   complete-path true k = go (decLt 0 n)
     where
       go : Dec (0 < n) → Completion n (Path true k)
-      go (yes h) = in-front (Path true k) 20 (HeldByte 0) (omega arith) (rw (lt-ltb 0 n h)) (held-byte 0)
+      go (yes h) = in-front (Path true k) 20 (IncumbentByte 0) (omega arith) (rw (lt-ltb 0 n h)) (incumbent-byte 0)
       go (no h) = in-front (Path true k) 0 Done (omega arith) (rw (le-ltb 0 n (omega arith))) done
 
   complete-header : (i : ℕ) → i ≤ 12 → Completion n (Header i)
@@ -90,8 +90,8 @@ abbrev pub Started : Stage → Type 0
 Started (Header i) = i ≤ 12
 Started (Path holds k) = Unit {0}
 Started (PathByte holds k) = Unit {0}
-Started (Held k) = Unit {0}
-Started (HeldByte k) = Unit {0}
+Started (Incumbent k) = Unit {0}
+Started (IncumbentByte k) = Unit {0}
 Started Done = Unit {0}
 
 -- Each of them can be completed.
@@ -100,8 +100,8 @@ unfolding next
 complete (Header i) h = complete-header i h
 complete (Path holds k) h = complete-path holds k
 complete (PathByte holds k) h = in-front (PathByte holds k) 0 (Path holds (k + 1)) (omega arith) refl (complete-path holds (k + 1))
-complete {n} (Held k) h = complete-held (n - k) k refl
-complete (HeldByte k) h = held-byte k
+complete {n} (Incumbent k) h = complete-incumbent (n - k) k refl
+complete (IncumbentByte k) h = incumbent-byte k
 complete Done h = done
 
 abbrev pub StartedIf : Option Stage → Type 0
@@ -132,8 +132,8 @@ started-next n (Header i) b h =
     let other = eqb-false i 12 e in omega arith))))
 started-next n (Path holds k) b h =
     started-or (eqb b 19 && ltb k n) (PathByte holds k) _ tt (
-    started-or (eqb b 20 && holds && ltb 0 n) (HeldByte 0) _ tt (started-if (eqb b 0 && not (holds && ltb 0 n)) Done tt))
+    started-or (eqb b 20 && holds && ltb 0 n) (IncumbentByte 0) _ tt (started-if (eqb b 0 && not (holds && ltb 0 n)) Done tt))
 started-next n (PathByte holds k) b h = tt
-started-next n (Held k) b h = started-cond (ltb k n) (eqb b 20) (HeldByte k) _ tt (λ e. started-if (eqb b 0) Done tt)
-started-next n (HeldByte k) b h = tt
+started-next n (Incumbent k) b h = started-cond (ltb k n) (eqb b 20) (IncumbentByte k) _ tt (λ e. started-if (eqb b 0) Done tt)
+started-next n (IncumbentByte k) b h = tt
 started-next n Done b h = tt

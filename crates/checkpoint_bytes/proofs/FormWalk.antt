@@ -7,7 +7,7 @@ use Prim.Native.Nat.{ℕ, suc}
 use lib.Dec.{eqb}
 use borrow.Author.Tests.{eqb-true}
 use Rattle.checkpoint_bytes.specs.declared.form.Stage.{Stage}
-use Rattle.checkpoint_bytes.specs.declared.form.Stage.the-variants.{Header, Path, PathByte, Held, HeldByte, Done}
+use Rattle.checkpoint_bytes.specs.declared.form.Stage.the-variants.{Header, Path, PathByte, Incumbent, IncumbentByte, Done}
 use Rattle.checkpoint_bytes.specs.Form.{stageIf, isDone, next, faultFrom}
 
 -- the bytes lead from the stage to the end
@@ -20,8 +20,8 @@ done-ends : (n : ℕ) (stage : Stage) (at : ℕ) → cond (isDone stage) none (s
 done-ends n (Header i) at e = absurd (true≢false (cc))
 done-ends n (Path holds k) at e = absurd (true≢false (cc))
 done-ends n (PathByte holds k) at e = absurd (true≢false (cc))
-done-ends n (Held k) at e = absurd (true≢false (cc))
-done-ends n (HeldByte k) at e = absurd (true≢false (cc))
+done-ends n (Incumbent k) at e = absurd (true≢false (cc))
+done-ends n (IncumbentByte k) at e = absurd (true≢false (cc))
 done-ends n Done at e = ended
 
 -- Bytes with no fault lead to the end.

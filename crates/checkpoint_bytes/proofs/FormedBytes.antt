@@ -11,33 +11,16 @@ use lib.Seq.{getD-append-add}
 use borrow.Author.Tests.{leb-true, le-leb, ne-eqb}
 use Rattle.checkpoint_bytes.specs.declared.form.Stage.the-variants.{Header, Path}
 use Rattle.checkpoint_bytes.specs.Form.{holdsOf, headerStage, next, formFault}
-use Rattle.checkpoint_bytes.specs.Loading.{heldEntries, pathEntries}
+use Rattle.checkpoint_bytes.specs.Loading.{incumbentEntries, pathEntries}
+use Rattle.checkpoint_bytes.specs.Formed.{pairs, formBytes, Formed}
 use Rattle.checkpoint_bytes.proofs.FormWalk.{Ends, byte, tested-byte, any-byte, one-byte, faultless-ends, ends-faultless}
-use Rattle.checkpoint_bytes.proofs.FormEntries.{path-parts, path-ends}
-use Rattle.checkpoint_bytes.proofs.Pairs.{pairs, length-pairs}
-
--- bytes of the form, from what they say: the eight bytes of the steps, and the state's byte
-abbrev pub formBytes : ℕ → List ℕ → ℕ → List ℕ → List ℕ → List ℕ
-formBytes minimum steps state path held =
-    16 ∷ minimum ∷ 17 ∷ (steps ++ (18 ∷ state ∷ (pairs 19 path ++ (pairs 20 held ++ (0 ∷ [])))))
+use Rattle.checkpoint_bytes.proofs.FormEntries.{path-section, path-ends}
+use Rattle.checkpoint_bytes.proofs.Pairs.{length-pairs}
 
 -- The header has 13 bytes, the end 1, and each entry 2.
-pub form-length : (minimum : ℕ) (steps : List ℕ) (state : ℕ) (path held : List ℕ) → length steps ≡ 8
-    → length (formBytes minimum steps state path held) ≡ 14 + 2 * length path + 2 * length held
-form-length minimum steps state path held eight = simp (length-append, length-pairs) (omega arith)
-
--- what bytes in the form say
-pub record Formed (n : ℕ) (bytes : List ℕ) : Type 0 where
-  pub minimum : ℕ
-  pub steps : List ℕ
-  pub state : ℕ
-  pub path : List ℕ
-  pub held : List ℕ
-  pub steps-length : length steps ≡ 8
-  pub state-max : state ≤ 3
-  pub path-max : length path ≤ n
-  pub held-length : length held ≡ cond (holdsOf state) n 0
-  pub whole : bytes ≡ formBytes minimum steps state path held
+pub form-length : (minimum : ℕ) (steps : List ℕ) (state : ℕ) (path incumbent : List ℕ) → length steps ≡ 8
+    → length (formBytes minimum steps state path incumbent) ≡ 14 + 2 * length path + 2 * length incumbent
+form-length minimum steps state path incumbent eight = simp (length-append, length-pairs) (omega arith)
 
 -- between the marks at 2 and 11 any byte may stand
 plain-stage : (i b : ℕ) → 3 ≤ i → i < 11 → headerStage i b ≡ some (Header (i + 1))
@@ -66,18 +49,18 @@ formed n bytes e =
     let steps = plain-bytes 8 3 (b .0) (omega arith) (omega arith) (b .2) in
     let c = one-byte refl (steps .4) (Header 12) 18 (λ b. refl) in
     let state = tested-byte refl (c .2) (λ b. leb b 3) (λ b. Path (holdsOf b) 0) (λ b. refl) in
-    let parts = path-parts n (holdsOf (state .0)) n 0 (state .1) (omega arith) (state .4) in
+    let section = path-section n (holdsOf (state .0)) n 0 (state .1) (omega arith) (state .4) in
     record {
       minimum = minimum .0;
       steps = steps .0;
       state = state .0;
-      path = parts .path;
-      held = parts .held;
+      path = section .path;
+      incumbent = section .incumbent;
       steps-length = steps .2;
       state-max = leb-true (state .0) 3 (state .3);
-      path-max = parts .path-max;
-      held-length = parts .held-length;
-      whole = cc (a .1, minimum .2, b .1, steps .3, c .1, state .2, parts .whole);
+      path-max = section .path-max;
+      incumbent-length = section .incumbent-length;
+      whole = cc (a .1, minimum .2, b .1, steps .3, c .1, state .2, section .whole);
     }
 
 -- any bytes lead from the one to the other
@@ -98,13 +81,13 @@ formed-faultless {n} f =
     (plain-ends 3 (f .steps) _ (omega arith) (omega (arith, f .steps-length))
     (byte (Header 11) 18 (Header 12) refl
     (byte (Header 12) (f .state) (Path (holdsOf (f .state)) 0) (rw (le-leb (f .state) 3 (f .state-max)))
-    (path-ends n (holdsOf (f .state)) 0 (f .path) (f .held) (omega (arith, f .path-max)) (f .held-length))))))))
+    (path-ends n (holdsOf (f .state)) 0 (f .path) (f .incumbent) (omega (arith, f .path-max)) (f .incumbent-length))))))))
     0)
 
 module _ {n : ℕ} {bytes : List ℕ} (f : Formed n bytes) where
   -- what comes after the header's steps
   abbrev pub afterSteps : List ℕ
-  afterSteps = 18 ∷ f .state ∷ (pairs 19 (f .path) ++ (pairs 20 (f .held) ++ (0 ∷ [])))
+  afterSteps = 18 ∷ f .state ∷ (pairs 19 (f .path) ++ (pairs 20 (f .incumbent) ++ (0 ∷ [])))
 
   -- The state's byte is at 12.
   pub state-at : getD bytes 12 0 ≡ f .state
@@ -114,20 +97,20 @@ module _ {n : ℕ} {bytes : List ℕ} (f : Formed n bytes) where
       ∙ getD-append-add (f .steps) afterSteps 1 0
 
   -- The entries of the mapping are as many as said.
-  pub held-count : heldEntries n bytes ≡ length (f .held)
-  held-count = ap (λ (state : ℕ). cond (holdsOf state) n 0) state-at ∙ sym (f .held-length)
+  pub incumbent-count : incumbentEntries n bytes ≡ length (f .incumbent)
+  incumbent-count = ap (λ (state : ℕ). cond (holdsOf state) n 0) state-at ∙ sym (f .incumbent-length)
 
   -- There is no byte besides the header, the entries and the end.
-  pub whole-length : length bytes ≡ 14 + 2 * length (f .path) + 2 * length (f .held)
-  whole-length = ap length (f .whole) ∙ form-length (f .minimum) (f .steps) (f .state) (f .path) (f .held) (f .steps-length)
+  pub whole-length : length bytes ≡ 14 + 2 * length (f .path) + 2 * length (f .incumbent)
+  whole-length = ap length (f .whole) ∙ form-length (f .minimum) (f .steps) (f .state) (f .path) (f .incumbent) (f .steps-length)
 
   -- The entries of the path are as many as said.
   pub path-count : pathEntries n bytes ≡ length (f .path)
-  path-count = rw (held-count, whole-length) (omega arith)
+  path-count = rw (incumbent-count, whole-length) (omega arith)
 
 -- Bytes in the form have at most n path entries, and no byte besides the header, the entries and the end.
 pub formed-lengths : (n : ℕ) (bytes : List ℕ) → formFault n bytes ≡ none
-    → (pathEntries n bytes ≤ n) × (length bytes ≡ 14 + 2 * pathEntries n bytes + 2 * heldEntries n bytes)
+    → (pathEntries n bytes ≤ n) × (length bytes ≡ 14 + 2 * pathEntries n bytes + 2 * incumbentEntries n bytes)
 formed-lengths n bytes e =
     let f = formed n bytes e in
-    (rw (path-count f) (f .path-max), rw (path-count f, held-count f) (whole-length f))
+    (rw (path-count f) (f .path-max), rw (path-count f, incumbent-count f) (whole-length f))

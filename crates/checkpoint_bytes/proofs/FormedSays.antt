@@ -9,18 +9,19 @@ use lib.ListN.{length, getD, take, drop, replicate, length-append, List·getD-ap
 use lib.Seq.{take-at}
 use Rattle.little_endian.specs.LittleEndian.{littleEndian, fromLittle}
 use Rattle.little_endian.proofs.LittleEndian.{little-back, from-little}
-use Rattle.mapping.specs.Problem.{Problem}
-use Rattle.search.specs.declared.Checkpoint.{Checkpoint}
+use Rattle.problem.specs.Problem.{Problem}
+use Rattle.search.specs.declared.checkpoint.Checkpoint.{Checkpoint}
 use Rattle.search.specs.Checkpoints.{padded, InShape}
 use Rattle.search.proofs.Padding.{padded-back}
 use Rattle.checkpoint_bytes.specs.Form.{holdsOf, finishedOf, formFault}
 use Rattle.checkpoint_bytes.specs.Saving.{stateByte, checkpointBytes}
-use Rattle.checkpoint_bytes.specs.Loading.{entries, heldEntries, pathEntries, said}
+use Rattle.checkpoint_bytes.specs.Loading.{entries, incumbentEntries, pathEntries, said}
 use Rattle.checkpoint_bytes.specs.FaultPlace.{Bytes}
 use Rattle.checkpoint_bytes.specs.Between.{Sized}
-use Rattle.checkpoint_bytes.proofs.Pairs.{pairs, length-pairs, valuesBelow, length-values, values-front, entries-pairs}
+use Rattle.checkpoint_bytes.specs.Formed.{pairs, formBytes, Formed}
+use Rattle.checkpoint_bytes.proofs.Pairs.{length-pairs, valuesBelow, length-values, values-front, entries-pairs}
 use Rattle.checkpoint_bytes.proofs.SavedBytes.{state-says, saved-bytes, saved-formed}
-use Rattle.checkpoint_bytes.proofs.FormedBytes.{formBytes, Formed, afterSteps, formed, state-at, held-count, path-count}
+use Rattle.checkpoint_bytes.proofs.FormedBytes.{afterSteps, formed, state-at, incumbent-count, path-count}
 
 module _ {n : ℕ} {bytes : List ℕ} (f : Formed n bytes) where
   -- the header, and the bytes split after it and after the path
@@ -30,10 +31,10 @@ module _ {n : ℕ} {bytes : List ℕ} (f : Formed n bytes) where
   header-length : length header ≡ 13
   header-length = omega (arith, length-append (f .steps) (18 ∷ f .state ∷ []), f .steps-length)
 
-  split-header : bytes ≡ header ++ (pairs 19 (f .path) ++ (pairs 20 (f .held) ++ (0 ∷ [])))
+  split-header : bytes ≡ header ++ (pairs 19 (f .path) ++ (pairs 20 (f .incumbent) ++ (0 ∷ [])))
   split-header = f .whole ∙ simp append-assoc
 
-  split-path : bytes ≡ (header ++ pairs 19 (f .path)) ++ (pairs 20 (f .held) ++ (0 ∷ []))
+  split-path : bytes ≡ (header ++ pairs 19 (f .path)) ++ (pairs 20 (f .incumbent) ++ (0 ∷ []))
   split-path = f .whole ∙ simp append-assoc
 
   -- the checkpoint that they say
@@ -46,7 +47,7 @@ module _ {n : ℕ} {bytes : List ℕ} (f : Formed n bytes) where
         path = padded (f .path);
         finished = finishedOf (f .state);
         holds = holdsOf (f .state);
-        incumbent = padded (f .held);
+        incumbent = padded (f .incumbent);
       }
 
   -- its steps, its path and its mapping, where they stand
@@ -56,10 +57,10 @@ module _ {n : ℕ} {bytes : List ℕ} (f : Formed n bytes) where
   path-at : entries bytes 13 (pathEntries n bytes) ≡ f .path
   path-at = entries-pairs 19 bytes header (f .path) _ 13 (pathEntries n bytes) split-header header-length (sym (path-count f))
 
-  held-at : entries bytes (13 + 2 * pathEntries n bytes) (heldEntries n bytes) ≡ f .held
-  held-at =
-      entries-pairs 20 bytes (header ++ pairs 19 (f .path)) (f .held) _ _ (heldEntries n bytes) split-path
-      (omega (arith, length-append header (pairs 19 (f .path)), header-length, length-pairs 19 (f .path), path-count f)) (sym (held-count f))
+  incumbent-at : entries bytes (13 + 2 * pathEntries n bytes) (incumbentEntries n bytes) ≡ f .incumbent
+  incumbent-at =
+      entries-pairs 20 bytes (header ++ pairs 19 (f .path)) (f .incumbent) _ _ (incumbentEntries n bytes) split-path
+      (omega (arith, length-append header (pairs 19 (f .path)), header-length, length-pairs 19 (f .path), path-count f)) (sym (incumbent-count f))
 
   -- Bytes in the form say this checkpoint.
   pub said-formed : said n bytes ≡ saysFormed
@@ -71,7 +72,7 @@ module _ {n : ℕ} {bytes : List ℕ} (f : Formed n bytes) where
     path = padded (path-at i);
     finished = finishedOf (state-at f i);
     holds = holdsOf (state-at f i);
-    incumbent = padded (held-at i);
+    incumbent = padded (incumbent-at i);
   }
 
 -- a state is that of its two parts
@@ -105,7 +106,7 @@ module _ {n : ℕ} {bytes : List ℕ} (small : Bytes bytes) (f : Formed n bytes)
   formed-back =
       saved-bytes n (saysFormed f)
       ∙ (λ i. formBytes (f .minimum) (steps-back i) (state-back (f .state) (f .state-max) i)
-      (padded-values (f .path) (length (f .path)) refl i) (padded-values (f .held) (cond (holdsOf (f .state)) n 0) (sym (f .held-length)) i))
+      (padded-values (f .path) (length (f .path)) refl i) (padded-values (f .incumbent) (cond (holdsOf (f .state)) n 0) (sym (f .incumbent-length)) i))
       ∙ sym (f .whole)
 
 -- Bytes in the form, loaded and saved again, are the same bytes.
@@ -132,12 +133,12 @@ save-said P c few sized shape =
       path = values-padded (c .depth) (c .path) (sized .path-long) (omega (arith, shape .depth-max)) (shape .path-rest) i;
       finished = state-says (c .finished) (c .holds) .1 i;
       holds = state-says (c .finished) (c .holds) .0 i;
-      incumbent = held-back (c .holds) refl i;
+      incumbent = incumbent-back (c .holds) refl i;
     })
   where
     n : ℕ
     n = P .old .order
 
-    held-back : (b : Bool) → c .holds ≡ b → padded (valuesBelow (cond b n 0) (λ i. getD (c .incumbent) i 0)) ≡ c .incumbent
-    held-back true e = values-padded n (c .incumbent) (sized .incumbent-long) few (shape .incumbent-rest)
-    held-back false e = values-padded 0 (c .incumbent) (sized .incumbent-long) (omega arith) (λ i h. shape .none-rest e i)
+    incumbent-back : (b : Bool) → c .holds ≡ b → padded (valuesBelow (cond b n 0) (λ i. getD (c .incumbent) i 0)) ≡ c .incumbent
+    incumbent-back true e = values-padded n (c .incumbent) (sized .incumbent-long) few (shape .incumbent-rest)
+    incumbent-back false e = values-padded 0 (c .incumbent) (sized .incumbent-long) (omega arith) (λ i h. shape .none-rest e i)

@@ -4,23 +4,23 @@ use mathlib.Core.Bool.{Bool, true, false, true≢false}
 use mathlib.Core.List.{List}
 use mathlib.Core.Option.{Option, none, some}
 use Prim.Native.Nat.{ℕ}
-use Rattle.graph.specs.Answers.{Answer, passed, accepted, refused, refusedAt}
-use Rattle.mapping.specs.Problem.{Problem, SoundProblem, problemAnswer}
-use Rattle.mapping.proofs.ProblemPasses.{passes-problem}
+use Rattle.answers.specs.Answer.{Answer, passed, accepted, refused, refusedAt, whenPassed}
+use Rattle.problem.specs.Problem.{Problem, SoundProblem, problemAnswer}
+use Rattle.problem.proofs.ProblemPasses.{passes-problem}
 use Rattle.search.specs.Checkpoints.{freshCheckpoint, InShape, inShape}
 use Rattle.search.proofs.ShapeTest.{shape-test}
 use Rattle.checkpoint_bytes.specs.Form.{formFault}
 use Rattle.checkpoint_bytes.specs.Saving.{checkpointBytes}
-use Rattle.checkpoint_bytes.specs.Loading.{Loading, said, refuse, onSound, onForm, loading}
+use Rattle.checkpoint_bytes.specs.Loading.{Loading, said, refuse, onForm, loading}
 use Rattle.checkpoint_bytes.specs.FaultPlace.{Bytes}
 use Rattle.checkpoint_bytes.proofs.FormedSays.{load-save}
 use Rattle.checkpoint_bytes.proofs.SaveLoad.{loads}
 
 -- the two ways that a load can go
-data Course (P : Problem) (bytes : List ℕ) (l : Loading) : Type 0 where
-  done : problemAnswer P ≡ passed → formFault (P .old .order) bytes ≡ none → inShape P (said (P .old .order) bytes) ≡ true
-      → l ≡ loads (said (P .old .order) bytes) → Course P bytes l
-  off : (a : Answer) → (a ≡ passed → ⊥) → l ≡ refuse a → Course P bytes l
+data LoadedOrRefused (P : Problem) (bytes : List ℕ) (l : Loading) : Type 0 where
+  said-loaded : problemAnswer P ≡ passed → formFault (P .old .order) bytes ≡ none → inShape P (said (P .old .order) bytes) ≡ true
+      → l ≡ loads (said (P .old .order) bytes) → LoadedOrRefused P bytes l
+  fresh-refused : (a : Answer) → (a ≡ passed → ⊥) → l ≡ refuse a → LoadedOrRefused P bytes l
 
 -- what an accepted load says of its bytes
 pub record Accepted (P : Problem) (bytes : List ℕ) : Type 0 where
@@ -31,29 +31,29 @@ pub record Accepted (P : Problem) (bytes : List ℕ) : Type 0 where
 
 module _ (P : Problem) (bytes : List ℕ) where
   -- a load goes one of the two ways
-  load-course : Course P bytes (loading P bytes)
+  loaded-or-refused : LoadedOrRefused P bytes (loading P bytes)
   unfolding loading
-  load-course = go (problemAnswer P) refl (formFault (P .old .order) bytes) refl (inShape P (said (P .old .order) bytes)) refl
+  loaded-or-refused = go (problemAnswer P) refl (formFault (P .old .order) bytes) refl (inShape P (said (P .old .order) bytes)) refl
     where
       go : (a : Answer) → problemAnswer P ≡ a → (fault : Option ℕ) → formFault (P .old .order) bytes ≡ fault
-          → (t : Bool) → inShape P (said (P .old .order) bytes) ≡ t → Course P bytes (onSound a (onForm P bytes fault))
-      go passed p none q true r = done p q r (rw r)
-      go passed p none q false r = off (refused 14) (λ e. true≢false (cc)) (rw r)
-      go passed p (some at) q t r = off (refusedAt 17 at) (λ e. true≢false (cc)) refl
-      go (accepted n) p fault q t r = off (accepted n) (λ e. true≢false (cc)) refl
-      go (refused n) p fault q t r = off (refused n) (λ e. true≢false (cc)) refl
-      go (refusedAt n at) p fault q t r = off (refusedAt n at) (λ e. true≢false (cc)) refl
+          → (t : Bool) → inShape P (said (P .old .order) bytes) ≡ t → LoadedOrRefused P bytes (whenPassed a (onForm P bytes fault) refuse)
+      go passed p none q true r = said-loaded p q r (rw r)
+      go passed p none q false r = fresh-refused (refused 14) (λ e. true≢false (cc)) (rw r)
+      go passed p (some at) q t r = fresh-refused (refusedAt 17 at) (λ e. true≢false (cc)) refl
+      go (accepted n) p fault q t r = fresh-refused (accepted n) (λ e. true≢false (cc)) refl
+      go (refused n) p fault q t r = fresh-refused (refused n) (λ e. true≢false (cc)) refl
+      go (refusedAt n at) p fault q t r = fresh-refused (refusedAt n at) (λ e. true≢false (cc)) refl
 
   -- An accepted load is of bytes in the form, for two sound graphs, and gives what they say, in shape.
   pub load-accepted : loading P bytes .answer ≡ passed → Accepted P bytes
-  load-accepted e = go (loading P bytes) refl load-course
+  load-accepted e = go (loading P bytes) refl loaded-or-refused
     where
-      go : (l : Loading) → loading P bytes ≡ l → Course P bytes l → Accepted P bytes
-      go l same (done p q r d) =
+      go : (l : Loading) → loading P bytes ≡ l → LoadedOrRefused P bytes l → Accepted P bytes
+      go l same (said-loaded p q r d) =
           let sound = passes-problem P p in
           let loaded : loading P bytes .checkpoint ≡ said (P .old .order) bytes = ap (λ (l : Loading). l .checkpoint) (same ∙ d) in
           record { sound = sound; whole = q; loaded = loaded; shape = rw loaded (shape-test P sound _ .0 r) }
-      go l same (off a never d) = absurd (never (sym (ap (λ (l : Loading). l .answer) (same ∙ d)) ∙ e))
+      go l same (fresh-refused a never d) = absurd (never (sym (ap (λ (l : Loading). l .answer) (same ∙ d)) ∙ e))
 
   -- Loading accepts only checkpoints in shape.
   pub load-in-shape : loading P bytes .answer ≡ passed → SoundProblem P × InShape P (loading P bytes .checkpoint)
@@ -67,8 +67,8 @@ module _ (P : Problem) (bytes : List ℕ) where
 
   -- "a refused load returns a fresh bookmark of floor 0"
   pub load-refused : (loading P bytes .answer ≡ passed → ⊥) → loading P bytes .checkpoint ≡ freshCheckpoint 0
-  load-refused never = go (loading P bytes) refl load-course
+  load-refused never = go (loading P bytes) refl loaded-or-refused
     where
-      go : (l : Loading) → loading P bytes ≡ l → Course P bytes l → l .checkpoint ≡ freshCheckpoint 0
-      go l same (done p q r d) = absurd (never (ap (λ (l : Loading). l .answer) (same ∙ d)))
-      go l same (off a no-pass d) = ap (λ (l : Loading). l .checkpoint) d
+      go : (l : Loading) → loading P bytes ≡ l → LoadedOrRefused P bytes l → l .checkpoint ≡ freshCheckpoint 0
+      go l same (said-loaded p q r d) = absurd (never (ap (λ (l : Loading). l .answer) (same ∙ d)))
+      go l same (fresh-refused a no-pass d) = ap (λ (l : Loading). l .checkpoint) d

@@ -4,9 +4,9 @@ use mathlib.Core.Bool.{Bool, true, false, cond, true≢false}
 use mathlib.Core.List.{List}
 use mathlib.Core.Option.{none, some}
 use Prim.Native.Nat.{ℕ}
-use Rattle.graph.specs.Answers.{passed, refused, refusedAt}
-use Rattle.mapping.specs.Problem.{Problem, problemAnswer}
-use Rattle.search.specs.declared.Checkpoint.{Checkpoint}
+use Rattle.answers.specs.Answer.{passed, refused, refusedAt}
+use Rattle.problem.specs.Problem.{Problem, problemAnswer}
+use Rattle.search.specs.declared.checkpoint.Checkpoint.{Checkpoint}
 use Rattle.search.specs.Checkpoints.{inShape}
 use Rattle.search.specs.Checking.{checkpointAnswer}
 use Rattle.checkpoint_bytes.specs.Form.{formFault}

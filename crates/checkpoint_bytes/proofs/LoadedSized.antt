@@ -7,15 +7,15 @@ use lib.ListN.{length, take, drop, length-take, length-drop}
 use lib.Seq.{getD-take, getD-drop}
 use Rattle.little_endian.specs.LittleEndian.{fromLittle}
 use Rattle.little_endian.proofs.LittleEndian.{fromLittle-max}
-use Rattle.graph.specs.Answers.{passed}
-use Rattle.mapping.specs.Problem.{Problem}
-use Rattle.search.specs.declared.Checkpoint.{Checkpoint}
+use Rattle.answers.specs.Answer.{passed}
+use Rattle.problem.specs.Problem.{Problem}
+use Rattle.search.specs.declared.checkpoint.Checkpoint.{Checkpoint}
 use Rattle.search.proofs.Padding.{padded-length}
 use Rattle.checkpoint_bytes.specs.Form.{holdsOf}
 use Rattle.checkpoint_bytes.specs.Loading.{said, loading}
 use Rattle.checkpoint_bytes.specs.Between.{Sized}
 use Rattle.checkpoint_bytes.specs.FaultPlace.{Bytes}
-use Rattle.checkpoint_bytes.proofs.SavedBytes.{held-few}
+use Rattle.checkpoint_bytes.proofs.SavedBytes.{incumbent-few}
 use Rattle.checkpoint_bytes.proofs.FormedBytes.{formed, formed-lengths}
 use Rattle.checkpoint_bytes.proofs.FormedSays.{said-formed}
 use Rattle.checkpoint_bytes.proofs.LoadAccepts.{load-accepted}
@@ -40,6 +40,6 @@ load-sized P bytes small e =
       path-long = ap (λ (c : Checkpoint). length (c .path)) (said-formed f) ∙ padded-length (f .path) (omega (arith, f .path-max, few));
       incumbent-long =
           ap (λ (c : Checkpoint). length (c .incumbent)) (said-formed f)
-          ∙ padded-length (f .held) (omega (arith, f .held-length, few, held-few (P .old .order) (holdsOf (f .state))));
+          ∙ padded-length (f .incumbent) (omega (arith, f .incumbent-length, few, incumbent-few (P .old .order) (holdsOf (f .state))));
       steps-fit = steps-fit bytes small (omega (arith, formed-lengths (P .old .order) bytes (found .whole) .1));
     })

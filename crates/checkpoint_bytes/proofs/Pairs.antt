@@ -5,14 +5,10 @@ use Prim.Native.Nat.{ℕ, zero, suc, _+_, _*_, _≤_, _<_}
 use native.Mathlib.Omega.{arith}
 use lib.ListN.{length, getD, take, length-append}
 use lib.Seq.{getD-append-add, take-suc, take-length}
-use Rattle.graph.specs.Below.{runBelow}
+use Rattle.bounded.specs.Below.{runBelow}
 use Rattle.checkpoint_bytes.specs.Saving.{entryBytes}
 use Rattle.checkpoint_bytes.specs.Loading.{entries}
-
--- each entry after the mark
-unfoldable pub pairs : ℕ → List ℕ → List ℕ
-pairs mark [] = []
-pairs mark (b ∷ l) = mark ∷ b ∷ pairs mark l
+use Rattle.checkpoint_bytes.specs.Formed.{pairs}
 
 -- Pairs take two bytes each.
 pub length-pairs : (mark : ℕ) (l : List ℕ) → length (pairs mark l) ≡ 2 * length l

@@ -1,18 +1,20 @@
 -- "Saved and loaded, it is the same bookmark" (01, "Bookmark and calls").
 use mathlib.Core.Path.{_≡_, refl, ap}
-use mathlib.Core.Bool.{Bool, true, false, cond, true≢false}
+use mathlib.Core.Bool.{true≢false}
 use mathlib.Core.List.{List}
 use Prim.Native.Nat.{ℕ}
 use lib.ListN.{take}
-use Rattle.graph.specs.Answers.{Answer, passed, accepted, refused, refusedAt}
-use Rattle.graph.specs.Writing.{fill, onSound}
-use Rattle.graph.proofs.Written.{filled-bytes}
-use Rattle.mapping.specs.Problem.{Problem, SoundProblem, problemAnswer, firstRefusal}
-use Rattle.mapping.proofs.ProblemPasses.{problem-passes, passes-problem, problem-number}
-use Rattle.search.specs.declared.Checkpoint.{Checkpoint}
-use Rattle.search.specs.Checkpoints.{InShape, inShape}
+use Rattle.answers.specs.Answer.{Answer, passed, accepted, refused, refusedAt}
+use Rattle.answers.specs.Output.{fill, writeIf}
+use Rattle.answers.proofs.Filled.{filled-bytes}
+use Rattle.answers.proofs.RefusalNumbers.{Plain}
+use Rattle.problem.specs.Problem.{Problem, SoundProblem}
+use Rattle.problem.proofs.ProblemPasses.{problem-passes}
+use Rattle.search.specs.declared.checkpoint.Checkpoint.{Checkpoint}
+use Rattle.search.specs.Checkpoints.{InShape}
 use Rattle.search.specs.Checking.{checkpointAnswer}
 use Rattle.search.proofs.ShapeTest.{shape-test}
+use Rattle.search.proofs.CheckpointPasses.{passes-shape, checkpoint-plain}
 use Rattle.checkpoint_bytes.specs.Saving.{checkpointBytes, saving}
 use Rattle.checkpoint_bytes.specs.Loading.{Loading, loading}
 use Rattle.checkpoint_bytes.specs.Between.{Sized, loadedBack, reloaded}
@@ -34,45 +36,17 @@ save-load P sound c sized shape =
       shape-test P sound c .1 shape,
     )
 
--- no checkpoint is accepted with a number
-shape-number : (P : Problem) (c : Checkpoint) (k : ℕ) → checkpointAnswer P c ≡ accepted k → ⊥
-unfolding checkpointAnswer
-shape-number P c k = go (problemAnswer P) (inShape P c) (problem-number P k)
-  where
-    go : (a : Answer) (t : Bool) → (a ≡ accepted k → ⊥) → firstRefusal a (cond t passed (refused 14)) ≡ accepted k → ⊥
-    go passed true never e = true≢false (cc)
-    go passed false never e = true≢false (cc)
-    go (accepted n) t never e = never e
-    go (refused n) t never e = true≢false (cc)
-    go (refusedAt n at) t never e = true≢false (cc)
-
--- A checkpoint that passes is one in shape, for two sound graphs.
-pub passed-shape : (P : Problem) (c : Checkpoint) → checkpointAnswer P c ≡ passed → SoundProblem P × InShape P c
-unfolding checkpointAnswer
-passed-shape P c e =
-    let both = go (problemAnswer P) (inShape P c) e in
-    let sound = passes-problem P (both .0) in
-    (sound, shape-test P sound c .0 (both .1))
-  where
-    go : (a : Answer) (t : Bool) → firstRefusal a (cond t passed (refused 14)) ≡ passed → (a ≡ passed) × (t ≡ true)
-    go passed true e = (refl, refl)
-    go passed false e = absurd (true≢false (cc))
-    go (accepted n) t e = absurd (true≢false (cc))
-    go (refused n) t e = absurd (true≢false (cc))
-    go (refusedAt n at) t e = absurd (true≢false (cc))
-
 module _ (P : Problem) (c : Checkpoint) (buffer : List ℕ) (k : ℕ) where
   -- An accepted save is of a checkpoint that passes.
   pub saved-passed : saving P c buffer .answer ≡ accepted k → checkpointAnswer P c ≡ passed
   unfolding saving
-  saved-passed = go (checkpointAnswer P c) (shape-number P c)
+  saved-passed = go (checkpointAnswer P c) (checkpoint-plain P c)
     where
-      go : (a : Answer) → ((n : ℕ) → a ≡ accepted n → ⊥) → onSound a (fill (checkpointBytes (P .old .order) c) buffer) buffer .answer ≡ accepted k
-          → a ≡ passed
-      go passed never e = refl
-      go (accepted n) never e = absurd (never n refl)
-      go (refused n) never e = absurd (true≢false (cc))
-      go (refusedAt n at) never e = absurd (true≢false (cc))
+      go : (a : Answer) → Plain a → writeIf a (checkpointBytes (P .old .order) c) buffer .answer ≡ accepted k → a ≡ passed
+      go passed plain e = refl
+      go (accepted n) plain e = absurd plain
+      go (refused n) plain e = absurd (true≢false (cc))
+      go (refusedAt n at) plain e = absurd (true≢false (cc))
 
   -- It leaves the checkpoint's bytes in the first k of the buffer.
   pub saved-front : saving P c buffer .answer ≡ accepted k → take k (saving P c buffer .buffer) ≡ checkpointBytes (P .old .order) c
@@ -84,7 +58,7 @@ module _ (P : Problem) (c : Checkpoint) (buffer : List ℕ) (k : ℕ) where
   -- What an accepted save wrote, loaded, gives the checkpoint that was saved.
   pub save-load-buffer : Sized c → saving P c buffer .answer ≡ accepted k → loading P (take k (saving P c buffer .buffer)) ≡ loads c
   save-load-buffer sized e =
-      let found = passed-shape P c (saved-passed e) in
+      let found = passes-shape P c (saved-passed e) in
       rw (saved-front e) (save-load P (found .0) c sized (found .1))
 
 -- Saved into any buffer and loaded from it, it is the same checkpoint.

@@ -8,13 +8,14 @@ use native.Mathlib.Omega.{arith}
 use lib.ListN.{length, getD}
 use Rattle.little_endian.specs.LittleEndian.{littleEndian}
 use Rattle.little_endian.proofs.LittleEndian.{length-little}
-use Rattle.mapping.specs.Problem.{Problem, SoundProblem}
-use Rattle.search.specs.declared.Checkpoint.{Checkpoint}
+use Rattle.problem.specs.Problem.{Problem, SoundProblem}
+use Rattle.search.specs.declared.checkpoint.Checkpoint.{Checkpoint}
 use Rattle.search.specs.Checkpoints.{InShape}
 use Rattle.checkpoint_bytes.specs.Form.{holdsOf, finishedOf, formFault}
-use Rattle.checkpoint_bytes.specs.Saving.{stateByte, headerBytes, checkpointBytes}
+use Rattle.checkpoint_bytes.specs.Saving.{stateByte, headerBytes, checkpointBytes, maxBytes}
+use Rattle.checkpoint_bytes.specs.Formed.{formBytes, Formed}
 use Rattle.checkpoint_bytes.proofs.Pairs.{valuesBelow, length-values, entry-pairs}
-use Rattle.checkpoint_bytes.proofs.FormedBytes.{formBytes, Formed, form-length, formed-faultless}
+use Rattle.checkpoint_bytes.proofs.FormedBytes.{form-length, formed-faultless}
 
 -- The state's byte says whether a mapping is held and whether the search is finished, and is at most 3.
 pub state-says : (finished holds : Bool)
@@ -28,14 +29,14 @@ state-says false false = (refl, refl, omega arith)
 abbrev pub savedPath : Checkpoint → List ℕ
 savedPath c = valuesBelow (c .depth) (λ i. getD (c .path) i 0)
 
-abbrev pub savedHeld : ℕ → Checkpoint → List ℕ
-savedHeld n c = valuesBelow (cond (c .holds) n 0) (λ i. getD (c .incumbent) i 0)
+abbrev pub savedIncumbent : ℕ → Checkpoint → List ℕ
+savedIncumbent n c = valuesBelow (cond (c .holds) n 0) (λ i. getD (c .incumbent) i 0)
 
 module _ (n : ℕ) (c : Checkpoint) where
-  -- The bytes of a checkpoint, part by part.
+  -- The bytes of a checkpoint, section by section.
   pub saved-bytes :
       checkpointBytes n c
-      ≡ formBytes (c .minimum) (littleEndian 8 (c .steps)) (stateByte (c .finished) (c .holds)) (savedPath c) (savedHeld n c)
+      ≡ formBytes (c .minimum) (littleEndian 8 (c .steps)) (stateByte (c .finished) (c .holds)) (savedPath c) (savedIncumbent n c)
   unfolding checkpointBytes headerBytes
   saved-bytes =
       ap₂ (λ (p h : List ℕ). headerBytes c ++ p ++ h ++ (0 ∷ []))
@@ -49,11 +50,11 @@ module _ (n : ℕ) (c : Checkpoint) where
     steps = littleEndian 8 (c .steps);
     state = stateByte (c .finished) (c .holds);
     path = savedPath c;
-    held = savedHeld n c;
+    incumbent = savedIncumbent n c;
     steps-length = length-little 8 (c .steps);
     state-max = state-says (c .finished) (c .holds) .2;
     path-max = omega (arith, length-values (c .depth) (λ i. getD (c .path) i 0));
-    held-length =
+    incumbent-length =
         length-values (cond (c .holds) n 0) (λ i. getD (c .incumbent) i 0)
         ∙ ap (λ (b : Bool). cond b n 0) (sym (state-says (c .finished) (c .holds) .0));
     whole = saved-bytes;
@@ -67,16 +68,16 @@ module _ (n : ℕ) (c : Checkpoint) where
   pub saved-length : length (checkpointBytes n c) ≡ 14 + 2 * c .depth + 2 * cond (c .holds) n 0
   saved-length =
       ap length saved-bytes
-      ∙ form-length (c .minimum) (littleEndian 8 (c .steps)) (stateByte (c .finished) (c .holds)) (savedPath c) (savedHeld n c)
+      ∙ form-length (c .minimum) (littleEndian 8 (c .steps)) (stateByte (c .finished) (c .holds)) (savedPath c) (savedIncumbent n c)
       (length-little 8 (c .steps))
       ∙ ap₂ (λ (p h : ℕ). 14 + 2 * p + 2 * h) (length-values (c .depth) _) (length-values (cond (c .holds) n 0) _)
 
 -- A mapping has at most n entries.
-pub held-few : (n : ℕ) (holds : Bool) → cond holds n 0 ≤ n
-held-few n true = omega arith
-held-few n false = omega arith
+pub incumbent-few : (n : ℕ) (holds : Bool) → cond holds n 0 ≤ n
+incumbent-few n true = omega arith
+incumbent-few n false = omega arith
 
 -- "At most 270 bytes."
-pub saved-max : (P : Problem) → SoundProblem P → (c : Checkpoint) → InShape P c → length (checkpointBytes (P .old .order) c) ≤ 270
+pub saved-max : (P : Problem) → SoundProblem P → (c : Checkpoint) → InShape P c → length (checkpointBytes (P .old .order) c) ≤ maxBytes
 saved-max P sound c shape =
-    omega (arith, saved-length (P .old .order) c, shape .depth-max, sound .old-sound .order-max, held-few (P .old .order) (c .holds))
+    omega (arith, saved-length (P .old .order) c, shape .depth-max, sound .old-sound .order-max, incumbent-few (P .old .order) (c .holds))

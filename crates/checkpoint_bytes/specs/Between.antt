@@ -4,11 +4,11 @@ use mathlib.Core.Path.{_≡_}
 use mathlib.Core.List.{List, [], _∷_}
 use Prim.Native.Nat.{ℕ, _^_, _<_}
 use lib.ListN.{length, take}
-use Rattle.graph.specs.Answers.{Answer, passed, accepted, refused, refusedAt}
-use Rattle.mapping.specs.Problem.{Problem}
-use Rattle.search.specs.declared.Checkpoint.{Checkpoint}
+use Rattle.answers.specs.Answer.{Answer, onAnswer}
+use Rattle.problem.specs.Problem.{Problem}
+use Rattle.search.specs.declared.checkpoint.Checkpoint.{Checkpoint}
 use Rattle.search.specs.Call.{Called}
-use Rattle.search.specs.Calls.{Call, called}
+use Rattle.search.specs.Calls.{Call, called, results, leaves}
 use Rattle.checkpoint_bytes.specs.Saving.{saving}
 use Rattle.checkpoint_bytes.specs.Loading.{loading}
 
@@ -20,10 +20,7 @@ pub record Sized (c : Checkpoint) : Type 0 where
 
 -- what is loaded from the bytes that a save wrote; the checkpoint itself where it wrote none
 abbrev pub loadedBack : Problem → Checkpoint → Answer → List ℕ → Checkpoint
-loadedBack P c passed buffer = c
-loadedBack P c (accepted count) buffer = loading P (take count buffer) .checkpoint
-loadedBack P c (refused n) buffer = c
-loadedBack P c (refusedAt n at) buffer = c
+loadedBack P c answer buffer = onAnswer c (λ count. loading P (take count buffer) .checkpoint) (λ n. c) (λ n at. c) answer
 
 -- the checkpoint, saved into this buffer and loaded from it
 abbrev pub reloaded : Problem → Checkpoint → List ℕ → Checkpoint
@@ -49,3 +46,7 @@ savedResults P c (x ∷ later) =
 unfoldable pub savedLeaves : Problem → Checkpoint → List SavedCall → Checkpoint
 savedLeaves P c [] = c
 savedLeaves P c (x ∷ later) = savedLeaves P (reloaded P (called P c (x .call) .checkpoint) (x .buffer)) later
+
+-- calls with the checkpoint saved and loaded between them give, and leave, what the calls alone do
+abbrev pub SameAsCalls : Problem → Checkpoint → List SavedCall → Type 0
+SameAsCalls P c calls = (savedResults P c calls ≡ results P c (callsOf calls)) × (savedLeaves P c calls ≡ leaves P c (callsOf calls))

@@ -7,10 +7,10 @@ use lib.Dec.{leb, ltb, eqb}
 -- what may come next:
 -- Header i, the header's byte i ("16, floor; 17, steps in eight bytes, low first; 18, state");
 -- Path holds k, after k path entries, with a mapping to follow or not ("19, byte for each path entry"), and PathByte holds k, the byte of entry k;
--- Held k, after k entries of the mapping ("then 20, byte for each of n entries if one is held"), and HeldByte k, the byte of entry k;
+-- Incumbent k, after k entries of the mapping ("then 20, byte for each of n entries if one is held"), and IncumbentByte k, the byte of entry k;
 -- Done, after the end
 use Rattle.checkpoint_bytes.specs.declared.form.Stage.{Stage}
-use Rattle.checkpoint_bytes.specs.declared.form.Stage.the-variants.{Header, Path, PathByte, Held, HeldByte, Done}
+use Rattle.checkpoint_bytes.specs.declared.form.Stage.the-variants.{Header, Path, PathByte, Incumbent, IncumbentByte, Done}
 use Rattle.checkpoint_bytes.specs.declared.form.Step.{Step}
 use Rattle.checkpoint_bytes.specs.declared.form.Step.the-variants as step
 use Rattle.checkpoint_bytes.specs.declared.form.Form.{Form}
@@ -43,7 +43,7 @@ headerStage i b =
 abbrev pub pathStage : ℕ → Bool → ℕ → ℕ → Option Stage
 pathStage n holds k b =
     orStage (stageIf (eqb b 19 && ltb k n) (PathByte holds k))
-    (orStage (stageIf (eqb b 20 && holds && ltb 0 n) (HeldByte 0))
+    (orStage (stageIf (eqb b 20 && holds && ltb 0 n) (IncumbentByte 0))
     (stageIf (eqb b 0 && not (holds && ltb 0 n)) Done))
 
 -- the stage after byte b, or none where b cannot stand
@@ -51,16 +51,16 @@ unfoldable pub next : ℕ → Stage → ℕ → Option Stage
 next n (Header i) b = headerStage i b
 next n (Path holds k) b = pathStage n holds k b
 next n (PathByte holds k) b = some (Path holds (k + 1))
-next n (Held k) b = cond (ltb k n) (stageIf (eqb b 20) (HeldByte k)) (stageIf (eqb b 0) Done)
-next n (HeldByte k) b = some (Held (k + 1))
+next n (Incumbent k) b = cond (ltb k n) (stageIf (eqb b 20) (IncumbentByte k)) (stageIf (eqb b 0) Done)
+next n (IncumbentByte k) b = some (Incumbent (k + 1))
 next n Done b = none
 
 abbrev pub isDone : Stage → Bool
 isDone (Header i) = false
 isDone (Path holds k) = false
 isDone (PathByte holds k) = false
-isDone (Held k) = false
-isDone (HeldByte k) = false
+isDone (Incumbent k) = false
+isDone (IncumbentByte k) = false
 isDone Done = true
 
 -- 17's place: "the first byte that can't stand there (the length if the end is missing)"; none where the bytes are in the form
@@ -76,8 +76,8 @@ abbrev pub count : Stage → ℕ
 count (Header i) = i
 count (Path holds k) = k
 count (PathByte holds k) = k
-count (Held k) = k
-count (HeldByte k) = k
+count (Incumbent k) = k
+count (IncumbentByte k) = k
 count Done = 0
 
 -- what the code's answers say

@@ -5,10 +5,10 @@ use mathlib.Core.Option.{Option, none, some}
 use Prim.Native.Nat.{ℕ, _+_, _-_, _*_, _/_}
 use lib.ListN.{length, getD, take, drop}
 use Rattle.little_endian.specs.LittleEndian.{fromLittle}
-use Rattle.graph.specs.Answers.{Answer, passed, accepted, refused, refusedAt}
-use Rattle.graph.specs.Below.{runBelow}
-use Rattle.mapping.specs.Problem.{Problem, problemAnswer}
-use Rattle.search.specs.declared.Checkpoint.{Checkpoint}
+use Rattle.bounded.specs.Below.{runBelow}
+use Rattle.answers.specs.Answer.{Answer, passed, refused, refusedAt, whenPassed}
+use Rattle.problem.specs.Problem.{Problem, problemAnswer}
+use Rattle.search.specs.declared.checkpoint.Checkpoint.{Checkpoint}
 use Rattle.search.specs.Checkpoints.{padded, freshCheckpoint, inShape}
 use Rattle.checkpoint_bytes.specs.declared.Loaded.{Loaded}
 use Rattle.checkpoint_bytes.specs.Answers.{loadAnswer}
@@ -19,11 +19,11 @@ abbrev pub entries : List ℕ → ℕ → ℕ → List ℕ
 entries bytes from k = runBelow k (λ i. getD bytes (from + 2 * i + 1) 0 ∷ [])
 
 -- how many entries of a mapping bytes in the form have, and how many of a path: the header has 13 bytes, the end 1, each entry 2
-abbrev pub heldEntries : ℕ → List ℕ → ℕ
-heldEntries n bytes = cond (holdsOf (getD bytes 12 0)) n 0
+abbrev pub incumbentEntries : ℕ → List ℕ → ℕ
+incumbentEntries n bytes = cond (holdsOf (getD bytes 12 0)) n 0
 
 abbrev pub pathEntries : ℕ → List ℕ → ℕ
-pathEntries n bytes = (length bytes - (14 + 2 * heldEntries n bytes)) / 2
+pathEntries n bytes = (length bytes - (14 + 2 * incumbentEntries n bytes)) / 2
 
 -- the checkpoint that bytes in the form say
 unfoldable pub said : ℕ → List ℕ → Checkpoint
@@ -35,7 +35,7 @@ said n bytes =
       path = padded (entries bytes 13 (pathEntries n bytes));
       finished = finishedOf (getD bytes 12 0);
       holds = holdsOf (getD bytes 12 0);
-      incumbent = padded (entries bytes (13 + 2 * pathEntries n bytes) (heldEntries n bytes));
+      incumbent = padded (entries bytes (13 + 2 * pathEntries n bytes) (incumbentEntries n bytes));
     }
 
 -- the answer, and the checkpoint
@@ -50,12 +50,6 @@ loadingOf r = record { answer = loadAnswer (r .answer); checkpoint = r .checkpoi
 abbrev pub refuse : Answer → Loading
 refuse answer = record { answer = answer; checkpoint = freshCheckpoint 0 }
 
-abbrev pub onSound : Answer → Loading → Loading
-onSound passed l = l
-onSound (accepted n) l = refuse (accepted n)
-onSound (refused n) l = refuse (refused n)
-onSound (refusedAt n at) l = refuse (refusedAt n at)
-
 -- "14 not in shape", for the checkpoint that the bytes say
 abbrev pub onShape : Problem → Checkpoint → Loading
 onShape P c = cond (inShape P c) (record { answer = passed; checkpoint = c }) (refuse (refused 14))
@@ -66,4 +60,4 @@ onForm P bytes none = onShape P (said (P .old .order) bytes)
 
 -- 10, 11 and 12; then 17 with its place; then 14
 unfoldable pub loading : Problem → List ℕ → Loading
-loading P bytes = onSound (problemAnswer P) (onForm P bytes (formFault (P .old .order) bytes))
+loading P bytes = whenPassed (problemAnswer P) (onForm P bytes (formFault (P .old .order) bytes)) refuse

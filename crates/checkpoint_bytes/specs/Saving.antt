@@ -4,10 +4,10 @@ use mathlib.Core.List.{List, [], _∷_, _++_}
 use Prim.Native.Nat.{ℕ, _+_}
 use lib.ListN.{getD}
 use Rattle.little_endian.specs.LittleEndian.{littleEndian}
-use Rattle.graph.specs.Below.{runBelow}
-use Rattle.graph.specs.Writing.{Writing, fill, onSound}
-use Rattle.mapping.specs.Problem.{Problem}
-use Rattle.search.specs.declared.Checkpoint.{Checkpoint}
+use Rattle.bounded.specs.Below.{runBelow}
+use Rattle.answers.specs.Output.{Writing, writeIf}
+use Rattle.problem.specs.Problem.{Problem}
+use Rattle.search.specs.declared.checkpoint.Checkpoint.{Checkpoint}
 use Rattle.search.specs.Checking.{checkpointAnswer}
 use Rattle.checkpoint_bytes.specs.declared.SaveAnswer.{SaveAnswer}
 use Rattle.checkpoint_bytes.specs.Answers.{saveAnswer}
@@ -30,10 +30,14 @@ unfoldable pub checkpointBytes : ℕ → Checkpoint → List ℕ
 checkpointBytes n c =
     headerBytes c ++ entryBytes 19 (c .path) (c .depth) ++ entryBytes 20 (c .incumbent) (cond (c .holds) n 0) ++ (0 ∷ [])
 
+-- "At most 270 bytes."
+abbrev pub maxBytes : ℕ
+maxBytes = 270
+
 -- the answer, and the buffer afterwards
 abbrev pub savingOf : SaveAnswer → List ℕ → Writing
 savingOf r buffer = record { answer = saveAnswer r; buffer = buffer }
 
 -- 10, 11 and 12; then 14; then 13; "Writers change only the bytes they fill", and a refusal changes nothing
 unfoldable pub saving : Problem → Checkpoint → List ℕ → Writing
-saving P c buffer = onSound (checkpointAnswer P c) (fill (checkpointBytes (P .old .order) c) buffer) buffer
+saving P c buffer = writeIf (checkpointAnswer P c) (checkpointBytes (P .old .order) c) buffer

@@ -4,13 +4,29 @@ ghost use mathlib.Core.Path.{_≡_};
 ghost use Prim.Native.Nat.{_+_, _^_, _<_};
 ghost use Rattle.checkpoint_bytes.specs.Form.{stageIf, headerStage, pathStage, next as nextStage, isDone, formFault, count, stepOf, faultOf};
 
-// What may come next: a byte of the header; an entry of the path, its byte; an entry of the mapping that is held, its byte; nothing.
+// The marks: before the minimum, the steps, the state, each entry of the path and each of the incumbent; and the end.
+pub const MINIMUM_MARK: u8 = 16;
+
+pub const STEPS_MARK: u8 = 17;
+
+pub const STATE_MARK: u8 = 18;
+
+pub const PATH_MARK: u8 = 19;
+
+pub const INCUMBENT_MARK: u8 = 20;
+
+pub const END: u8 = 0;
+
+// How many bytes stand before the entries.
+pub const HEADER: usize = 13;
+
+// What may come next: a byte of the header; an entry of the path, its byte; an entry of the incumbent, its byte; nothing.
 pub enum Stage {
     Header(usize),
     Path(bool, usize),
     PathByte(bool, usize),
-    Held(usize),
-    HeldByte(usize),
+    Incumbent(usize),
+    IncumbentByte(usize),
     Done,
 }
 
@@ -41,13 +57,13 @@ pub fn after_header(i: usize, byte: u8) -> Step
     ensures { λ r. ⌜ stepOf r ≡ headerStage i byte ⌝ }
 {
     if i == 0 {
-        return to_if(byte == 16, Stage::Header(1));
+        return to_if(byte == MINIMUM_MARK, Stage::Header(1));
     }
     if i == 2 {
-        return to_if(byte == 17, Stage::Header(3));
+        return to_if(byte == STEPS_MARK, Stage::Header(3));
     }
     if i == 11 {
-        return to_if(byte == 18, Stage::Header(12));
+        return to_if(byte == STATE_MARK, Stage::Header(12));
     }
     if i == 12 {
         return to_if(byte <= 3, Stage::Path(byte % 2 == 1, 0));
@@ -58,15 +74,15 @@ pub fn after_header(i: usize, byte: u8) -> Step
 pub fn after_path(order: usize, holds: bool, k: usize, byte: u8) -> Step
     ensures { λ r. ⌜ stepOf r ≡ pathStage order holds k byte ⌝ }
 {
-    let held_due = holds & (0 < order);
-    if byte == 19 {
+    let incumbent_due = holds & (0 < order);
+    if byte == PATH_MARK {
         return to_if(k < order, Stage::PathByte(holds, k));
     }
-    if byte == 20 {
-        return to_if(held_due, Stage::HeldByte(0));
+    if byte == INCUMBENT_MARK {
+        return to_if(incumbent_due, Stage::IncumbentByte(0));
     }
-    if byte == 0 {
-        return to_if(!held_due, Stage::Done);
+    if byte == END {
+        return to_if(!incumbent_due, Stage::Done);
     }
     Step::Stuck
 }
@@ -79,13 +95,13 @@ pub fn next(order: usize, stage: Stage, byte: u8) -> Step
         Stage::Header(i) => after_header(i, byte),
         Stage::Path(holds, k) => after_path(order, holds, k, byte),
         Stage::PathByte(holds, k) => Step::To(Stage::Path(holds, k + 1)),
-        Stage::Held(k) => {
+        Stage::Incumbent(k) => {
             if k < order {
-                return to_if(byte == 20, Stage::HeldByte(k));
+                return to_if(byte == INCUMBENT_MARK, Stage::IncumbentByte(k));
             }
-            to_if(byte == 0, Stage::Done)
+            to_if(byte == END, Stage::Done)
         }
-        Stage::HeldByte(k) => Step::To(Stage::Held(k + 1)),
+        Stage::IncumbentByte(k) => Step::To(Stage::Incumbent(k + 1)),
         Stage::Done => Step::Stuck,
     }
 }

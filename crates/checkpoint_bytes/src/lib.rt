@@ -5,33 +5,63 @@ mod loader;
 mod saver;
 
 use form::Form;
-use graph::Flaw;
-use graph::Soundness;
+use problem::Edges;
+use problem::Labels;
+use problem::Orders;
+use problem::ProblemAnswer;
+use problem::ProblemFlaw;
 use search::Checkpoint;
 use search::ShapeAnswer;
 ghost use mathlib.Core.Path.{_≡_};
 ghost use mathlib.Core.Bool.{cond};
 ghost use Prim.Native.Nat.{_≤_};
-ghost use Rattle.graph.specs.Graph.{graph};
-ghost use Rattle.mapping.specs.Problem.{problem};
+ghost use Rattle.answers.specs.Answer.{refusalNumber};
+ghost use Rattle.problem.specs.Lent.{lent};
 ghost use Rattle.checkpoint_bytes.specs.Saving.{stateByte, savingOf, saving};
 ghost use Rattle.checkpoint_bytes.specs.Loading.{loadingOf, loading, refuse as refused};
-ghost use Rattle.checkpoint_bytes.specs.Answers.{loadAnswer};
+ghost use Rattle.checkpoint_bytes.specs.Answers.{saveAnswer, loadAnswer};
+
+// The most bytes that a checkpoint is saved in.
+pub const MAX_BYTES: usize = 270;
 
 // The answer of `save_checkpoint`: how many bytes were written, or a refusal.
 pub enum SaveAnswer {
     Written(usize),
-    Flawed(Flaw),
+    Flawed(ProblemFlaw),
     OutOfShape,
     TooShort,
+}
+
+// The document's number of a refusal, and 0 where bytes were written.
+pub fn save_number(answer: SaveAnswer) -> u8
+    ensures { λ r. ⌜ r ≡ refusalNumber (saveAnswer answer) ⌝ }
+{
+    match answer {
+        SaveAnswer::Written(_) => 0,
+        SaveAnswer::Flawed(flaw) => problem::problem_flaw_number(flaw),
+        SaveAnswer::OutOfShape => 14,
+        SaveAnswer::TooShort => 13,
+    }
 }
 
 // The answer of `load_checkpoint`: a checkpoint in shape, or a refusal; `Malformed` has the place of the first byte that cannot stand there.
 pub enum LoadAnswer {
     InShape,
-    Flawed(Flaw),
+    Flawed(ProblemFlaw),
     Malformed(usize),
     OutOfShape,
+}
+
+// The document's number of a refusal, and 0 where a checkpoint was loaded.
+pub fn load_number(answer: LoadAnswer) -> u8
+    ensures { λ r. ⌜ r ≡ refusalNumber (loadAnswer answer) ⌝ }
+{
+    match answer {
+        LoadAnswer::InShape => 0,
+        LoadAnswer::Flawed(flaw) => problem::problem_flaw_number(flaw),
+        LoadAnswer::Malformed(_) => 17,
+        LoadAnswer::OutOfShape => 14,
+    }
 }
 
 // The answer, and the checkpoint that was loaded; the fresh one of minimum 0 after a refusal.
@@ -56,8 +86,8 @@ pub fn state_byte(finished: bool, holds: bool) -> u8
     0
 }
 
-// How many entries of a mapping the bytes have.
-fn held_entries(order: usize, holds: bool) -> usize
+// How many entries of the incumbent the bytes have.
+fn incumbent_entries(order: usize, holds: bool) -> usize
     ensures { λ r. ⌜ (r ≡ cond holds order 0) × (r ≤ order) ⌝ }
 {
     if holds {
@@ -67,30 +97,19 @@ fn held_entries(order: usize, holds: bool) -> usize
 }
 
 // Writes the checkpoint's bytes to the front of `out`.
-pub fn save_checkpoint(
-    old_order: usize,
-    old_labels: &[u8],
-    old_edges: &[u8],
-    new_order: usize,
-    new_labels: &[u8],
-    new_edges: &[u8],
+pub fn save_checkpoint<'a>(
+    orders: Orders,
+    labels: Labels<'a>,
+    edges: Edges<'a>,
     checkpoint: Checkpoint,
     out: &mut [u8],
 ) -> SaveAnswer
-    ensures { λ r. ⌜ savingOf r (now (out .exit)) ≡ saving (problem (graph «old_order» (now («old_labels» .entry)) (now («old_edges» .entry))) (graph «new_order» (now («new_labels» .entry)) (now («new_edges» .entry)))) checkpoint (now (out .entry)) ⌝ }
+    ensures { λ r. ⌜ savingOf r (now (out .exit)) ≡ saving (lent orders (labels .entry) (edges .entry)) checkpoint (now (out .entry)) ⌝ }
 {
-    match search::check_checkpoint(
-        old_order,
-        old_labels,
-        old_edges,
-        new_order,
-        new_labels,
-        new_edges,
-        checkpoint,
-    ) {
+    match search::check_checkpoint(orders, labels, edges, checkpoint) {
         ShapeAnswer::Flawed(flaw) => SaveAnswer::Flawed(flaw),
         ShapeAnswer::OutOfShape => SaveAnswer::OutOfShape,
-        ShapeAnswer::InShape => saver::save_in_shape(old_order, checkpoint, out),
+        ShapeAnswer::InShape => saver::save_in_shape(orders[0], checkpoint, out),
     }
 }
 
@@ -105,46 +124,28 @@ fn refuse(answer: LoadAnswer) -> Loaded
 }
 
 // The checkpoint that the bytes say, if they are in the form and it is in shape for the two graphs.
-pub fn load_checkpoint(
-    old_order: usize,
-    old_labels: &[u8],
-    old_edges: &[u8],
-    new_order: usize,
-    new_labels: &[u8],
-    new_edges: &[u8],
+pub fn load_checkpoint<'a>(
+    orders: Orders,
+    labels: Labels<'a>,
+    edges: Edges<'a>,
     bytes: &[u8],
 ) -> Loaded
-    ensures { λ r. ⌜ loadingOf r ≡ loading (problem (graph «old_order» (now («old_labels» .entry)) (now («old_edges» .entry))) (graph «new_order» (now («new_labels» .entry)) (now («new_edges» .entry)))) (now (bytes .entry)) ⌝ }
+    ensures { λ r. ⌜ loadingOf r ≡ loading (lent orders (labels .entry) (edges .entry)) (now (bytes .entry)) ⌝ }
 {
-    match mapping::check_problem(
-        old_order,
-        old_labels,
-        old_edges,
-        new_order,
-        new_labels,
-        new_edges,
-    ) {
-        Soundness::Flawed(flaw) => {
+    match problem::check_problem(orders, labels, edges) {
+        ProblemAnswer::Flawed(flaw) => {
             return refuse(LoadAnswer::Flawed(flaw));
         }
-        Soundness::Sound => {}
+        ProblemAnswer::Sound => {}
     }
-    match form::find_fault(old_order, bytes) {
+    match form::find_fault(orders[0], bytes) {
         Form::FaultAt(at) => {
             return refuse(LoadAnswer::Malformed(at));
         }
         Form::Whole => {}
     }
-    let checkpoint = loader::read_formed(old_order, bytes);
-    match search::check_checkpoint(
-        old_order,
-        old_labels,
-        old_edges,
-        new_order,
-        new_labels,
-        new_edges,
-        checkpoint,
-    ) {
+    let checkpoint = loader::read_formed(orders[0], bytes);
+    match search::check_checkpoint(orders, labels, edges, checkpoint) {
         ShapeAnswer::InShape => Loaded {
             answer: LoadAnswer::InShape,
             checkpoint,

@@ -1,5 +1,7 @@
 // The checkpoint that bytes in the form say.
 
+use super::form::HEADER;
+use graph::MAX_ORDER;
 use search::Checkpoint;
 ghost use mathlib.Core.Path.{_≡_};
 ghost use mathlib.Core.Option.{none};
@@ -10,11 +12,11 @@ ghost use Rattle.checkpoint_bytes.specs.Form.{formFault};
 ghost use Rattle.checkpoint_bytes.specs.Loading.{entries, said};
 
 // The `k` entries from the place `from` on, without their marks.
-pub fn read_entries(bytes: &[u8], from: usize, k: usize) -> [u8; 64]
+pub fn read_entries(bytes: &[u8], from: usize, k: usize) -> [u8; MAX_ORDER]
     requires { ⌜ (k ≤ 64) × (from + 2 * k ≤ length (now bytes)) ⌝ }
     ensures { λ r. ⌜ r ≡ padded (entries (now (bytes .entry)) from k) ⌝ }
 {
-    let mut list = [0u8; 64];
+    let mut list = [0u8; MAX_ORDER];
     let mut at = from;
     let mut i = 0;
     while i < k {
@@ -31,15 +33,15 @@ pub fn read_formed(order: usize, bytes: &[u8]) -> Checkpoint
 {
     let state = bytes[12];
     let holds = state % 2 == 1;
-    let held = super::held_entries(order, holds);
-    let depth = (bytes.len() - (14 + 2 * held)) / 2;
+    let entries = super::incumbent_entries(order, holds);
+    let depth = (bytes.len() - (HEADER + 1 + 2 * entries)) / 2;
     Checkpoint {
         minimum: bytes[1],
         steps: little_endian::load(&bytes[3..]),
         depth,
-        path: read_entries(bytes, 13, depth),
+        path: read_entries(bytes, HEADER, depth),
         finished: 2 <= state,
         holds,
-        incumbent: read_entries(bytes, 13 + 2 * depth, held),
+        incumbent: read_entries(bytes, HEADER + 2 * depth, entries),
     }
 }

@@ -1,13 +1,21 @@
 // The bytes of a checkpoint, written to the front of a buffer.
 
 use super::SaveAnswer;
+use super::form::END;
+use super::form::HEADER;
+use super::form::INCUMBENT_MARK;
+use super::form::MINIMUM_MARK;
+use super::form::PATH_MARK;
+use super::form::STATE_MARK;
+use super::form::STEPS_MARK;
+use graph::MAX_ORDER;
 use search::Checkpoint;
 ghost use mathlib.Core.Path.{_≡_};
 ghost use Prim.Native.Nat.{_+_, _*_, _≤_};
 ghost use lib.ListN.{length};
 ghost use lib.Seq.{sets};
 ghost use Rattle.little_endian.specs.LittleEndian.{littleEndian};
-ghost use Rattle.graph.specs.Writing.{fill};
+ghost use Rattle.answers.specs.Output.{fill};
 ghost use Rattle.checkpoint_bytes.specs.Saving.{headerBytes, entryBytes, checkpointBytes, savingOf};
 
 // The steps in eight bytes, low first, from the place 3 on.
@@ -27,16 +35,16 @@ pub fn put_header(checkpoint: Checkpoint, out: &mut [u8])
     requires { ⌜ 13 ≤ length (now out) ⌝ }
     ensures { λ _. ⌜ now (out .exit) ≡ sets (now (out .entry)) 0 (headerBytes checkpoint) ⌝ }
 {
-    out[0] = 16;
+    out[0] = MINIMUM_MARK;
     out[1] = checkpoint.minimum;
-    out[2] = 17;
+    out[2] = STEPS_MARK;
     put_steps(checkpoint.steps, out);
-    out[11] = 18;
+    out[11] = STATE_MARK;
     out[12] = super::state_byte(checkpoint.finished, checkpoint.holds);
 }
 
 // The first `k` entries of a list, each after its mark, from the place `start` on.
-pub fn put_entries(mark: u8, list: &[u8; 64], k: usize, out: &mut [u8], start: usize)
+pub fn put_entries(mark: u8, list: &[u8; MAX_ORDER], k: usize, out: &mut [u8], start: usize)
     requires { ⌜ (length (now list) ≡ 64) × (k ≤ 64) × (start + 2 * k ≤ length (now out)) ⌝ }
     ensures { λ _. ⌜ now (out .exit) ≡ sets (now (out .entry)) start (entryBytes mark (now (list .entry)) k) ⌝ }
 {
@@ -58,16 +66,16 @@ pub fn save_in_shape(order: usize, checkpoint: Checkpoint, out: &mut [u8]) -> Sa
     let depth = checkpoint.depth;
     let path = checkpoint.path;
     let incumbent = checkpoint.incumbent;
-    let held = super::held_entries(order, checkpoint.holds);
-    let middle = 13 + 2 * depth;
-    let end = middle + 2 * held;
+    let entries = super::incumbent_entries(order, checkpoint.holds);
+    let middle = HEADER + 2 * depth;
+    let end = middle + 2 * entries;
     let total = end + 1;
     if out.len() < total {
         return SaveAnswer::TooShort;
     }
     put_header(checkpoint, out);
-    put_entries(19, &path, depth, out, 13);
-    put_entries(20, &incumbent, held, out, middle);
-    out[end] = 0;
+    put_entries(PATH_MARK, &path, depth, out, HEADER);
+    put_entries(INCUMBENT_MARK, &incumbent, entries, out, middle);
+    out[end] = END;
     SaveAnswer::Written(total)
 }

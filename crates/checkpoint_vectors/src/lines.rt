@@ -14,19 +14,21 @@ fn number(text: &[u8], n: u64) {
     io::print_decimal(STDOUT_FILENO, n);
 }
 
+fn refused(n: u8) {
+    number(b": refused ", n as u64);
+}
+
 pub fn loaded(answer: LoadAnswer) {
     match answer {
         LoadAnswer::InShape => {
             word(b": loaded");
         }
-        LoadAnswer::Flawed(flaw) => {
-            number(b": refused ", graph::flaw_number(flaw) as u64);
-        }
         LoadAnswer::Malformed(at) => {
-            number(b": refused 17 ", at as u64);
+            refused(checkpoint_bytes::load_number(answer));
+            number(b" ", at as u64);
         }
-        LoadAnswer::OutOfShape => {
-            word(b": refused 14");
+        _ => {
+            refused(checkpoint_bytes::load_number(answer));
         }
     }
 }
@@ -46,14 +48,8 @@ pub fn saved(answer: SaveAnswer) {
         SaveAnswer::Written(count) => {
             number(b": saved ", count as u64);
         }
-        SaveAnswer::Flawed(flaw) => {
-            number(b": refused ", graph::flaw_number(flaw) as u64);
-        }
-        SaveAnswer::OutOfShape => {
-            word(b": refused 14");
-        }
-        SaveAnswer::TooShort => {
-            word(b": refused 13");
+        _ => {
+            refused(checkpoint_bytes::save_number(answer));
         }
     }
 }

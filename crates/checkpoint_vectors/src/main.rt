@@ -4,7 +4,10 @@
 mod lines;
 
 use checkpoint_bytes::LoadAnswer;
-use graph::ReadAnswer;
+use graph_reader::ReadAnswer;
+use problem::Edges;
+use problem::Labels;
+use problem::Orders;
 use search::Checkpoint;
 ghost use mathlib.Core.Path.{_≡_};
 ghost use Prim.Native.Nat.{_≤_};
@@ -12,7 +15,7 @@ ghost use lib.ListN.{length};
 
 // The graph's order. Bytes that hold no graph are told of in the output.
 fn read(bytes: &[u8], labels: &mut [u8], edges: &mut [u8]) -> usize {
-    match graph::read_graph(bytes, labels, edges) {
+    match graph_reader::read_graph(bytes, labels, edges) {
         ReadAnswer::Order(order) => order,
         _ => {
             lines::word(b"no graph\n");
@@ -22,25 +25,8 @@ fn read(bytes: &[u8], labels: &mut [u8], edges: &mut [u8]) -> usize {
 }
 
 // Loads the bytes, and saves what was loaded.
-fn load(
-    name: &[u8],
-    old_order: usize,
-    old_labels: &[u8],
-    old_edges: &[u8],
-    new_order: usize,
-    new_labels: &[u8],
-    new_edges: &[u8],
-    bytes: &[u8],
-) {
-    let loaded = checkpoint_bytes::load_checkpoint(
-        old_order,
-        old_labels,
-        old_edges,
-        new_order,
-        new_labels,
-        new_edges,
-        bytes,
-    );
+fn load<'a>(name: &[u8], orders: Orders, labels: Labels<'a>, edges: Edges<'a>, bytes: &[u8]) {
+    let loaded = checkpoint_bytes::load_checkpoint(orders, labels, edges, bytes);
     let answer = loaded.answer;
     let checkpoint = loaded.checkpoint;
     lines::word(name);
@@ -49,12 +35,9 @@ fn load(
     if let LoadAnswer::InShape = answer {
         let mut buffer = [170u8; 300];
         lines::saved(checkpoint_bytes::save_checkpoint(
-            old_order,
-            old_labels,
-            old_edges,
-            new_order,
-            new_labels,
-            new_edges,
+            orders,
+            labels,
+            edges,
             checkpoint,
             &mut buffer,
         ));
@@ -72,12 +55,9 @@ fn case(name: &[u8], old: &[u8], new: &[u8], bytes: &[u8]) {
     let new_order = read(new, &mut new_labels, &mut new_edges);
     load(
         name,
-        old_order,
-        &old_labels,
-        &old_edges,
-        new_order,
-        &new_labels,
-        &new_edges,
+        [old_order, new_order],
+        [&old_labels, &new_labels],
+        [&old_edges, &new_edges],
         bytes,
     );
 }
@@ -279,22 +259,18 @@ fn full() {
     case(b"64 vertices at full depth", &graph, &graph, &bytes);
 }
 
+// Loads no bytes at all for two graphs without edges, which both have this label at 63 and no other.
+fn load_nothing(name: &[u8], orders: Orders, label: u8) {
+    let mut labels = [0u8; 64];
+    labels[63] = label;
+    let edges = [0u8; 4096];
+    load(name, orders, [&labels, &labels], [&edges, &edges], b"");
+}
+
 // Graphs that are not sound are refused before bytes that are malformed.
 fn unsound() {
-    let mut labels = [0u8; 64];
-    let edges = [0u8; 4096];
-    load(b"order 65", 65, &labels, &edges, 0, &labels, &edges, b"");
-    labels[63] = 9;
-    load(
-        b"old labels unsound, and malformed",
-        0,
-        &labels,
-        &edges,
-        0,
-        &labels,
-        &edges,
-        b"",
-    );
+    load_nothing(b"order 65", [65, 0], 0);
+    load_nothing(b"old labels unsound, and malformed", [0, 0], 9);
 }
 
 // Saves a checkpoint that was never loaded.
@@ -310,12 +286,9 @@ fn save(name: &[u8], depth: usize, edge: u8, out: &mut [u8]) {
     path[1] = 255;
     path[2] = 255;
     let answer = checkpoint_bytes::save_checkpoint(
-        3,
-        &labels,
-        &edges,
-        3,
-        &labels,
-        &edges,
+        [3, 3],
+        [&labels, &labels],
+        [&edges, &edges],
         Checkpoint {
             minimum: 0,
             steps: 9,

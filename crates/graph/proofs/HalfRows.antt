@@ -9,10 +9,10 @@ use native.Mathlib.Omega.{arith}
 use lib.Dec.{eqb}
 use lib.ListN.{getD}
 use borrow.Author.Tests.{eqb-true, eqb-false, eq-eqb, ne-eqb}
+use Rattle.bounded.specs.Below.{allBelow}
+use Rattle.bounded.proofs.AllBelow.{allBelow-true, true-allBelow}
 use Rattle.graph.specs.Graph.{place}
-use Rattle.graph.specs.Below.{allBelow}
 use Rattle.graph.specs.Soundness.{edgeSound, rowSound, edgesSound}
-use Rattle.graph.proofs.AllBelow.{allBelow-true, true-allBelow}
 
 eqb-sym : (a b : ℕ) → eqb a b ≡ eqb b a
 eqb-sym a b = go (eqb a b) refl

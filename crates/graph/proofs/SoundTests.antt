@@ -7,10 +7,10 @@ use native.Mathlib.Omega.{arith}
 use lib.Dec.{ltb, eqb}
 use lib.ListN.{length, getD}
 use borrow.Author.Tests.{ltb-true, ltb-false, leb-true, eqb-true, eqb-false, lt-ltb, le-ltb, le-leb, lt-leb, eq-eqb, ne-eqb}
+use Rattle.bounded.proofs.AllBelow.{allBelow-true, true-allBelow}
+use Rattle.answers.specs.Answer.{passed, refused}
 use Rattle.graph.specs.Graph.{Graph, Sound, place}
-use Rattle.graph.specs.Answers.{passed, refused}
 use Rattle.graph.specs.Soundness.{tablesFit, labelSound, labelsSound, edgeSound, rowSound, edgesSound, soundness}
-use Rattle.graph.proofs.AllBelow.{allBelow-true, true-allBelow}
 
 -- ---- one label and one edge
 

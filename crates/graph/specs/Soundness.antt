@@ -4,9 +4,9 @@ use mathlib.Core.List.{List}
 use Prim.Native.Nat.{ℕ, max}
 use lib.Dec.{leb, ltb, eqb}
 use lib.ListN.{length, getD}
+use Rattle.bounded.specs.Below.{allBelow}
+use Rattle.answers.specs.Answer.{Answer, passed, refused}
 use Rattle.graph.specs.Graph.{Graph, place}
-use Rattle.graph.specs.Answers.{Answer, passed, refused}
-use Rattle.graph.specs.Below.{allBelow}
 
 -- 10: "lengths not 64 and 4,096, or n above 64"
 abbrev pub tablesFit : ℕ → List ℕ → List ℕ → Bool

@@ -1,13 +1,15 @@
 // The two tests of a graph's tables, 01's numbers 11 and 12.
 
+use super::Label;
+use super::MAX_ORDER;
 ghost use mathlib.Core.Path.{_≡_};
-ghost use Prim.Native.Nat.{_+_, _≤_, _<_};
+ghost use Prim.Native.Nat.{_+_, _<_};
 ghost use lib.ListN.{length};
-ghost use Rattle.graph.specs.Below.{allBelow};
+ghost use Rattle.bounded.specs.Below.{allBelow};
 ghost use Rattle.graph.specs.Soundness.{labelSound, labelsSound, edgeSound, edgesSound};
 
 // The label of v is not 0 exactly where v is a vertex of the graph.
-pub fn label_sound(order: usize, labels: &[u8], v: usize) -> bool
+pub fn label_sound(order: usize, labels: &[Label], v: usize) -> bool
     requires { ⌜ (length (now labels) ≡ 64) × (v < 64) ⌝ }
     ensures { λ r. ⌜ r ≡ labelSound order (now (labels .entry)) v ⌝ }
 {
@@ -17,12 +19,12 @@ pub fn label_sound(order: usize, labels: &[u8], v: usize) -> bool
     labels[v] == 0
 }
 
-pub fn labels_sound(order: usize, labels: &[u8]) -> bool
+pub fn labels_sound(order: usize, labels: &[Label]) -> bool
     requires { ⌜ length (now labels) ≡ 64 ⌝ }
     ensures { λ r. ⌜ r ≡ labelsSound order (now (labels .entry)) ⌝ }
 {
     let mut v = 0;
-    while v < 64 {
+    while v < MAX_ORDER {
         if !label_sound(order, labels, v) {
             return false;
         }
@@ -36,8 +38,8 @@ pub fn edge_sound(order: usize, edges: &[u8], a: usize, b: usize) -> bool
     requires { ⌜ (length (now edges) ≡ 4096) × (a < 64) × (b < 64) ⌝ }
     ensures { λ r. ⌜ r ≡ edgeSound order (now (edges .entry)) a b ⌝ }
 {
-    let label = edges[64 * a + b];
-    if label != edges[64 * b + a] {
+    let label = edges[MAX_ORDER * a + b];
+    if label != edges[MAX_ORDER * b + a] {
         return false;
     }
     if label == 0 {
@@ -72,7 +74,7 @@ pub fn edges_sound(order: usize, edges: &[u8]) -> bool
     ensures { λ r. ⌜ r ≡ edgesSound order (now (edges .entry)) ⌝ }
 {
     let mut a = 0;
-    while a < 64 {
+    while a < MAX_ORDER {
         if !row_sound(order, edges, a) {
             return false;
         }

@@ -1,10 +1,8 @@
 // Runs the reader, the writer and the soundness test on vectors derived by hand from document 01, and prints what they answer.
 
-use graph::Fault;
-use graph::Flaw;
-use graph::ReadAnswer;
 use graph::Soundness;
-use graph::WriteAnswer;
+use graph_reader::ReadAnswer;
+use graph_writer::WriteAnswer;
 use libc::STDOUT_FILENO;
 ghost use mathlib.Core.Path.{_≡_};
 ghost use Prim.Native.Nat.{_≤_};
@@ -16,29 +14,6 @@ fn say(text: &[u8]) {
 
 fn say_number(n: usize) {
     io::print_decimal(STDOUT_FILENO, n as u64);
-}
-
-// 01's number of a fault.
-fn fault_number(fault: Fault) -> usize {
-    match fault {
-        Fault::Truncated => 1,
-        Fault::UnknownCommand => 2,
-        Fault::ZeroLabel => 3,
-        Fault::TooManyVertices => 4,
-        Fault::MissingVertex => 5,
-        Fault::SelfEdge => 6,
-        Fault::NullEdge => 7,
-        Fault::RepeatedEdge => 8,
-        Fault::TrailingBytes => 9,
-    }
-}
-
-fn flaw_number(flaw: Flaw) -> usize {
-    match flaw {
-        Flaw::Tables => 10,
-        Flaw::Labels => 11,
-        Flaw::Edges => 12,
-    }
 }
 
 // How many bytes are not 0.
@@ -61,7 +36,7 @@ fn used(table: &[u8]) -> usize
 fn read_into(name: &[u8], bytes: &[u8], labels: &mut [u8], edges: &mut [u8]) {
     let mut out = [0u8; 8193];
     say(name);
-    match graph::read_graph(bytes, labels, edges) {
+    match graph_reader::read_graph(bytes, labels, edges) {
         ReadAnswer::Order(order) => {
             say(b": order ");
             say_number(order);
@@ -80,7 +55,7 @@ fn read_into(name: &[u8], bytes: &[u8], labels: &mut [u8], edges: &mut [u8]) {
         }
         ReadAnswer::Refused(fault, at) => {
             say(b": ");
-            say_number(fault_number(fault));
+            say_number(graph_reader::fault_number(fault) as usize);
             say(b" at ");
             say_number(at);
             say(b", left ");
@@ -101,14 +76,14 @@ fn read(name: &[u8], bytes: &[u8]) {
 // Writes, and prints the count or the number, and how many bytes of the buffer are not 0 then.
 fn write_into(name: &[u8], order: usize, labels: &[u8], edges: &[u8], out: &mut [u8]) {
     say(name);
-    match graph::write_graph(order, labels, edges, out) {
+    match graph_writer::write_graph(order, labels, edges, out) {
         WriteAnswer::Written(count) => {
             say(b": bytes ");
             say_number(count);
         }
         WriteAnswer::Flawed(flaw) => {
             say(b": ");
-            say_number(flaw_number(flaw));
+            say_number(graph::flaw_number(flaw) as usize);
         }
         WriteAnswer::TooShort => {
             say(b": 13");
@@ -127,7 +102,7 @@ fn check(name: &[u8], order: usize, labels: &[u8], edges: &[u8]) {
         }
         Soundness::Flawed(flaw) => {
             say(b": ");
-            say_number(flaw_number(flaw));
+            say_number(graph::flaw_number(flaw) as usize);
             say(b"\n");
         }
     }

@@ -7,15 +7,15 @@ use Prim.Native.Nat.{ℕ, _<_}
 use lib.Dec.{eqb}
 use lib.ListN.{length}
 use borrow.Author.Tests.{eqb-true, eq-eqb}
-use Rattle.graph.specs.Answers as graph
-use Rattle.mapping.specs.Problem.{Problem, SoundProblem, problemAnswer}
+use Rattle.bounded.specs.First.{firstBelow}
+use Rattle.bounded.proofs.First.{firstBelow-none, none-firstBelow, firstBelow-some}
+use Rattle.answers.specs.Answer as answer
+use Rattle.problem.specs.Problem.{Problem, SoundProblem, problemAnswer}
 use Rattle.mapping.specs.Common.{Common, Pairwise, size}
-use Rattle.mapping.specs.First.{firstBelow}
 use Rattle.mapping.specs.Answers.{Outcome, accepted, refused}
 use Rattle.mapping.specs.Check.{rowFault, onFault, listOutcome, onProblem, checkOutcome}
-use Rattle.mapping.proofs.First.{firstBelow-none, none-firstBelow, firstBelow-some}
 use Rattle.mapping.proofs.Pairwise.{common-pairwise, pairwise-common}
-use Rattle.mapping.proofs.ProblemPasses.{problem-passes, passes-problem, problem-number}
+use Rattle.problem.proofs.ProblemPasses.{problem-passes, passes-problem, problem-number}
 use Rattle.mapping.proofs.RowFault.{RowPasses, row-none, none-row, row-refuses}
 
 module _ (P : Problem) (l : List ℕ) where
@@ -54,15 +54,15 @@ module _ (P : Problem) (l : List ℕ) where
   unfolding checkOutcome
   passes-only-common n e = go (problemAnswer P) refl e
     where
-      go : (a : graph.Answer) → problemAnswer P ≡ a → onProblem a (listOutcome P l) ≡ accepted n
+      go : (a : answer.Answer) → problemAnswer P ≡ a → onProblem a (listOutcome P l) ≡ accepted n
           → SoundProblem P × Common P l × (n ≡ size l)
-      go graph.passed q e =
+      go answer.passed q e =
           let s = passes-problem P q in
           let r = list-accepted n e in
           (s, pairwise-common P l s (r .0), r .1)
-      go (graph.accepted m) q e = absurd (problem-number P m q)
-      go (graph.refused m) q e = absurd (true≢false (cc))
-      go (graph.refusedAt m at) q e = absurd (true≢false (cc))
+      go (answer.accepted m) q e = absurd (problem-number P m q)
+      go (answer.refused m) q e = absurd (true≢false (cc))
+      go (answer.refusedAt m at) q e = absurd (true≢false (cc))
 
   -- Between two sound graphs a mapping that passes is a common subgraph, and the answer is its size.
   pub passes-common : SoundProblem P → (n : ℕ) → checkOutcome P l ≡ accepted n → Common P l × (n ≡ size l)

@@ -1,10 +1,7 @@
 pub mod CheckPasses
-pub mod Consistent
-pub mod First
 pub mod Mapped
 pub mod Order
 pub mod Pairwise
-pub mod ProblemPasses
 pub mod Removal
 pub mod RowFault
 pub mod RowsAlone

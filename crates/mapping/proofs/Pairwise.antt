@@ -7,9 +7,9 @@ use Prim.Native.Nat.{ℕ, _<_}
 use native.Mathlib.Decide.{ℕ-discrete, decLt}
 use native.Mathlib.Omega.{arith}
 use lib.ListN.{length, getD}
-use Rattle.mapping.specs.Problem.{Problem, SoundProblem, compareVertices, compareEdges, allowed, consistent}
+use Rattle.problem.specs.Problem.{Problem, SoundProblem, compareVertices, compareEdges, allowed, consistent}
 use Rattle.mapping.specs.Common.{Common, Pairwise, unmapped, size, x, y}
-use Rattle.mapping.proofs.Consistent.{allowed-facts, facts-allowed, consistent-facts, facts-consistent, consistent-symmetric}
+use Rattle.problem.proofs.Consistent.{allowed-facts, facts-allowed, consistent-facts, facts-consistent, consistent-symmetric}
 use Rattle.mapping.proofs.Mapped.{x-below, x-mapped, mapped-x, x-injective}
 
 -- In a common subgraph each mapped row is allowed, and each two mapped rows are consistent.
@@ -17,7 +17,7 @@ pub common-pairwise : (P : Problem) (l : List ℕ) → Common P l → Pairwise P
 common-pairwise P l c = record { entries = c .entries; alone = alone; together = together }
   where
     alone : (v : ℕ) → v < length l → getD l v 0 ≢ unmapped → allowed P v (getD l v 0) ≡ true
-    alone v h m = let i = mapped-x l v h m in rw (← i .2) (facts-allowed P _ _ (c .partner (i .0) (i .1)) (c .vertices (i .0) (i .1)))
+    alone v h m = let i = mapped-x l v h m in rw (← i .2) (facts-allowed P _ _ (c .image (i .0) (i .1)) (c .vertices (i .0) (i .1)))
 
     pair : (i j : ℕ) → i < size l → j < size l → x l i < x l j → consistent P (x l i) (y l i) (x l j) (y l j) ≡ true
     pair i j hi hj h =
@@ -37,7 +37,7 @@ pub pairwise-common : (P : Problem) (l : List ℕ) → SoundProblem P → Pairwi
 pairwise-common P l s p =
     record {
       entries = p .entries;
-      partner = λ i h. alone i h .0;
+      image = λ i h. alone i h .0;
       injective = λ i j hi hj e. injective i j hi hj e (ℕ-discrete i j);
       vertices = λ i h. alone i h .1;
       edges = λ i j hi hj ne. together i j hi hj ne .1;

@@ -8,7 +8,7 @@ use native.Mathlib.Decide.{ℕ-discrete}
 use native.Mathlib.Omega.{arith}
 use lib.ListN.{length, getD, set, replicate, length-set, length-replicate, getD-replicate}
 use lib.Seq.{getD-set-same, getD-set-other}
-use Rattle.mapping.specs.Problem.{Problem, SoundProblem, allowed, consistent}
+use Rattle.problem.specs.Problem.{Problem, SoundProblem, allowed, consistent}
 use Rattle.mapping.specs.Common.{Common, Pairwise, unmapped}
 use Rattle.mapping.proofs.Pairwise.{common-pairwise, pairwise-common}
 

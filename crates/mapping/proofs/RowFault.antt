@@ -8,17 +8,17 @@ use Prim.Native.Nat.{ℕ, _<_}
 use lib.Dec.{ltb, eqb}
 use lib.ListN.{getD}
 use borrow.Author.Tests.{eqb-false, ne-eqb, ltb-true, lt-ltb}
-use Rattle.mapping.specs.Problem.{Problem, compareVertices, compareEdges, allowed, consistent}
+use Rattle.bounded.specs.First.{firstBelow}
+use Rattle.bounded.proofs.First.{firstBelow-none, none-firstBelow, firstBelow-some}
+use Rattle.problem.specs.Problem.{Problem, compareVertices, compareEdges, allowed, consistent}
 use Rattle.mapping.specs.Common.{unmapped}
-use Rattle.mapping.specs.First.{firstBelow}
 use Rattle.mapping.specs.Answers.{Outcome, accepted, refusedRow, refusedRows}
 use Rattle.mapping.specs.Check.{clash, rowFault}
-use Rattle.mapping.proofs.Consistent.{allowed-facts, facts-allowed, consistent-facts, facts-consistent}
-use Rattle.mapping.proofs.First.{firstBelow-none, none-firstBelow, firstBelow-some}
+use Rattle.problem.proofs.Consistent.{allowed-facts, facts-allowed, consistent-facts, facts-consistent}
 
--- the tests of a row against an earlier one: the earlier is left out, the partners are the same, the edges agree
+-- the tests of a row against an earlier one: the earlier is left out, the images are the same, the edges agree
 abbrev clashTests : Bool → Bool → Bool → Outcome → Outcome → Option Outcome
-clashTests out same agree samePartner edgesDiffer = cond out none (cond same (some samePartner) (cond agree none (some edgesDiffer)))
+clashTests out same agree sameImage edgesDiffer = cond out none (cond same (some sameImage) (cond agree none (some edgesDiffer)))
 
 clash-passed : (same agree : Bool) (p q : Outcome) → clashTests false same agree p q ≡ none → (same ≡ false) × (agree ≡ true)
 clash-passed true agree p q e = absurd (Option·some-ne-none p e)
@@ -31,7 +31,7 @@ clash-outcome false true agree p q o e np nq = np (cc)
 clash-outcome false false true p q o e np nq = true≢false (cc)
 clash-outcome false false false p q o e np nq = nq (cc)
 
--- the tests of a row: it is left out, its partner is a new vertex, the labels agree, and then those against the earlier rows
+-- the tests of a row: it is left out, its image is a new vertex, the labels agree, and then those against the earlier rows
 abbrev rowTests : Bool → Bool → Bool → Option Outcome → Outcome → Outcome → Option Outcome
 rowTests out below agree earlier labelsDiffer noVertex =
     cond out none (cond below (cond agree earlier (some labelsDiffer)) (some noVertex))

@@ -3,8 +3,8 @@ use mathlib.Core.Path.{_≡_, refl}
 use mathlib.Core.Bool.{Bool, true, false, cond, true≢false}
 use mathlib.Core.List.{List}
 use Prim.Native.Nat.{ℕ}
-use Rattle.graph.specs.Answers.{Answer, passed, refused}
-use Rattle.mapping.specs.Problem.{Problem, bothFit, problemAnswer}
+use Rattle.answers.specs.Answer.{Answer, passed, refused}
+use Rattle.problem.specs.Problem.{Problem, bothFit, problemAnswer}
 use Rattle.mapping.specs.Check.{rowsOutcome, checkOutcome}
 
 passed-true : (t : Bool) (a : Answer) → cond t a (refused 10) ≡ passed → t ≡ true

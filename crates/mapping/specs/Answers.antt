@@ -1,8 +1,8 @@
 -- What each answer of the check says in 01's terms: the size, or a refusal's number with its rows (01, "Refusals by place of checking").
 use Prim.Native.Nat.{ℕ}
-use Rattle.graph.specs.Answers.{flawNumber}
+use Rattle.problem.specs.Answers.{problemFlawNumber}
 use Rattle.mapping.specs.declared.MappingAnswer.{MappingAnswer}
-use Rattle.mapping.specs.declared.MappingAnswer.the-variants.{Common, Flawed, Length, NoVertex, SamePartner, LabelsDiffer, EdgesDiffer}
+use Rattle.mapping.specs.declared.MappingAnswer.the-variants.{Common, Flawed, Length, NoVertex, SameImage, LabelsDiffer, EdgesDiffer}
 
 pub data Outcome : Type 0 where
   accepted : ℕ → Outcome
@@ -12,11 +12,18 @@ pub data Outcome : Type 0 where
   -- number, row, then the earlier row
   refusedRows : ℕ → ℕ → ℕ → Outcome
 
+-- the number of a refusal, or 0
+abbrev pub outcomeNumber : Outcome → ℕ
+outcomeNumber (accepted n) = 0
+outcomeNumber (refused number) = number
+outcomeNumber (refusedRow number row) = number
+outcomeNumber (refusedRows number row earlier) = number
+
 abbrev pub mappingOutcome : MappingAnswer → Outcome
 mappingOutcome (Common n) = accepted n
-mappingOutcome (Flawed f) = refused (flawNumber f)
+mappingOutcome (Flawed f) = refused (problemFlawNumber f)
 mappingOutcome Length = refused 18
 mappingOutcome (NoVertex r) = refusedRow 19 (r .0)
-mappingOutcome (SamePartner r e) = refusedRows 20 (r .0) (e .0)
+mappingOutcome (SameImage r e) = refusedRows 20 (r .0) (e .0)
 mappingOutcome (LabelsDiffer r) = refusedRow 21 (r .0)
 mappingOutcome (EdgesDiffer r e) = refusedRows 22 (r .0) (e .0)

@@ -6,10 +6,10 @@ use mathlib.Core.Path.{_≡_}
 use Prim.Native.Nat.{ℕ, _<_}
 use lib.Dec.{ltb, eqb}
 use lib.ListN.{length, getD}
-use Rattle.graph.specs.Answers as graph
-use Rattle.mapping.specs.Problem.{Problem, compareVertices, compareEdges, bothFit, problemAnswer}
+use Rattle.bounded.specs.First.{firstBelow}
+use Rattle.answers.specs.Answer.{Answer, onAnswer}
+use Rattle.problem.specs.Problem.{Problem, compareVertices, compareEdges, bothFit, problemAnswer}
 use Rattle.mapping.specs.Common.{unmapped, size}
-use Rattle.mapping.specs.First.{firstBelow}
 use Rattle.mapping.specs.Answers.{Outcome, accepted, refused, refusedRow, refusedRows, mappingOutcome}
 use Rattle.mapping.specs.declared.rows.Finding.{Finding}
 use Rattle.mapping.specs.declared.rows.Finding.the-variants.{Clear, Fault}
@@ -49,11 +49,9 @@ listOutcome P l =
 unfoldable pub rowsOutcome : Problem → List ℕ → Outcome
 rowsOutcome P l = cond (bothFit P) (listOutcome P l) (refused 10)
 
-abbrev pub onProblem : graph.Answer → Outcome → Outcome
-onProblem graph.passed o = o
-onProblem (graph.accepted n) o = accepted n
-onProblem (graph.refused n) o = refused n
-onProblem (graph.refusedAt n at) o = refusedRow n at
+-- what follows on two sound graphs, or their refusal; `refusedAt` is no answer about two graphs
+abbrev pub onProblem : Answer → Outcome → Outcome
+onProblem answer o = onAnswer o accepted refused refusedRow answer
 
 -- all of it: 10, 11 and 12 come first
 unfoldable pub checkOutcome : Problem → List ℕ → Outcome

@@ -6,7 +6,7 @@ use mathlib.Core.List.{List, [], _∷_}
 use Prim.Native.Nat.{ℕ, suc, _<_}
 use lib.Dec.{eqb}
 use lib.ListN.{length, getD}
-use Rattle.mapping.specs.Problem.{Problem, compareVertices, compareEdges, allowed, consistent}
+use Rattle.problem.specs.Problem.{Problem, compareVertices, compareEdges, allowed, consistent}
 
 -- "255 for left out"
 abbrev pub unmapped : ℕ
@@ -24,7 +24,7 @@ mapped l = mappedFrom 0 l
 abbrev pub size : List ℕ → ℕ
 size l = length (mapped l)
 
--- the numbered sets X = x(0), .. x(k - 1) of mapped old vertices and Y = y(0), .. y(k - 1) of their partners, k = size l
+-- the numbered sets X = x(0), .. x(k - 1) of mapped old vertices and Y = y(0), .. y(k - 1) of their images, k = size l
 abbrev pub x : List ℕ → ℕ → ℕ
 x l i = getD (mapped l) i 0
 
@@ -36,8 +36,8 @@ y l i = getD l (x l i) 0
 pub record Common (P : Problem) (l : List ℕ) : Type 0 where
   -- one entry for each old vertex
   pub entries : length l ≡ P .old .order
-  -- a partner is a new vertex
-  pub partner : (i : ℕ) → i < size l → y l i < P .new .order
+  -- an image is a new vertex
+  pub image : (i : ℕ) → i < size l → y l i < P .new .order
   pub injective : (i j : ℕ) → i < size l → j < size l → y l i ≡ y l j → i ≡ j
   pub vertices : (i : ℕ) → i < size l → compareVertices P (x l i) (y l i) ≡ true
   pub edges : (i j : ℕ) → i < size l → j < size l → (i ≡ j → ⊥) → compareEdges P (x l i) (x l j) (y l i) (y l j) ≡ true

@@ -1,18 +1,22 @@
-// Mappings of the old graph's vertices to the new graph's: the check of two graphs, and of a mapping between them.
+// Mappings of the old graph's vertices to the new graph's, and the check of a mapping.
 // A mapping has one byte for each old vertex: a new vertex's number, or 255 where the vertex is left out.
 
 mod rows;
 
-use graph::Flaw;
-use graph::Soundness;
+use problem::Edges;
+use problem::Labels;
+use problem::Orders;
+use problem::ProblemAnswer;
+use problem::ProblemFlaw;
 use rows::Finding;
 ghost use mathlib.Core.Path.{_≡_};
-ghost use Rattle.graph.specs.Graph.{graph};
-ghost use Rattle.graph.specs.Answers.{soundnessAnswer};
-ghost use Rattle.mapping.specs.Problem.{problem, problemAnswer};
+ghost use Rattle.problem.specs.Lent.{lent};
 ghost use Rattle.mapping.specs.Common.{size};
-ghost use Rattle.mapping.specs.Answers.{mappingOutcome};
+ghost use Rattle.mapping.specs.Answers.{mappingOutcome, outcomeNumber};
 ghost use Rattle.mapping.specs.Check.{rowsOutcome, checkOutcome};
+
+// The entry of a row that is left out.
+pub const UNMAPPED: u8 = 255;
 
 // An old and a new vertex: a number of one never serves as the other's.
 pub struct OldVertex(pub usize);
@@ -22,12 +26,27 @@ pub struct NewVertex(pub usize);
 // The answer of `check_rows` and `check_mapping`: the mapping's size, or the refusal with its row and, where two rows clash, the earlier row.
 pub enum MappingAnswer {
     Common(usize),
-    Flawed(Flaw),
+    Flawed(ProblemFlaw),
     Length,
     NoVertex(OldVertex),
-    SamePartner(OldVertex, OldVertex),
+    SameImage(OldVertex, OldVertex),
     LabelsDiffer(OldVertex),
     EdgesDiffer(OldVertex, OldVertex),
+}
+
+// The document's number of a refusal, and 0 where the mapping is a common subgraph.
+pub fn mapping_number(answer: MappingAnswer) -> u8
+    ensures { λ r. ⌜ r ≡ outcomeNumber (mappingOutcome answer) ⌝ }
+{
+    match answer {
+        MappingAnswer::Common(_) => 0,
+        MappingAnswer::Flawed(flaw) => problem::problem_flaw_number(flaw),
+        MappingAnswer::Length => 18,
+        MappingAnswer::NoVertex(_) => 19,
+        MappingAnswer::SameImage(_, _) => 20,
+        MappingAnswer::LabelsDiffer(_) => 21,
+        MappingAnswer::EdgesDiffer(_, _) => 22,
+    }
 }
 
 // The number of pairs of a mapping.
@@ -37,88 +56,38 @@ pub fn mapping_size(mapping: &[u8]) -> usize
     rows::size(mapping)
 }
 
-// Whether both sets of tables hold sound graphs; the lengths and orders of both come first, then the old graph.
-pub fn check_problem(
-    old_order: usize,
-    old_labels: &[u8],
-    old_edges: &[u8],
-    new_order: usize,
-    new_labels: &[u8],
-    new_edges: &[u8],
-) -> Soundness
-    ensures { λ r. ⌜ soundnessAnswer r ≡ problemAnswer (problem (graph «old_order» (now («old_labels» .entry)) (now («old_edges» .entry))) (graph «new_order» (now («new_labels» .entry)) (now («new_edges» .entry)))) ⌝ }
-{
-    if !graph::tables_fit(new_order, new_labels, new_edges) {
-        return Soundness::Flawed(Flaw::Tables);
-    }
-    match graph::check_graph(old_order, old_labels, old_edges) {
-        Soundness::Flawed(flaw) => Soundness::Flawed(flaw),
-        Soundness::Sound => graph::check_graph(new_order, new_labels, new_edges),
-    }
-}
-
 // The check of the mapping alone: a caller that has tested the graphs' soundness already need not test it again.
-pub fn check_rows(
-    old_order: usize,
-    old_labels: &[u8],
-    old_edges: &[u8],
-    new_order: usize,
-    new_labels: &[u8],
-    new_edges: &[u8],
+pub fn check_rows<'a>(
+    orders: Orders,
+    labels: Labels<'a>,
+    edges: Edges<'a>,
     mapping: &[u8],
 ) -> MappingAnswer
-    ensures { λ r. ⌜ mappingOutcome r ≡ rowsOutcome (problem (graph «old_order» (now («old_labels» .entry)) (now («old_edges» .entry))) (graph «new_order» (now («new_labels» .entry)) (now («new_edges» .entry)))) (now (mapping .entry)) ⌝ }
+    ensures { λ r. ⌜ mappingOutcome r ≡ rowsOutcome (lent orders (labels .entry) (edges .entry)) (now (mapping .entry)) ⌝ }
 {
-    if !graph::tables_fit(old_order, old_labels, old_edges)
-        || !graph::tables_fit(new_order, new_labels, new_edges)
-    {
-        return MappingAnswer::Flawed(Flaw::Tables);
+    if !problem::both_fit(orders, labels, edges) {
+        return MappingAnswer::Flawed(ProblemFlaw::Tables);
     }
-    if mapping.len() != old_order {
+    if mapping.len() != orders[0] {
         return MappingAnswer::Length;
     }
-    match rows::first_fault(
-        old_labels,
-        old_edges,
-        new_order,
-        new_labels,
-        new_edges,
-        mapping,
-    ) {
+    match rows::first_fault(orders, labels, edges, mapping) {
         Finding::Fault(answer) => answer,
         Finding::Clear => MappingAnswer::Common(rows::size(mapping)),
     }
 }
 
 // Whether the mapping is a common subgraph of the two graphs.
-pub fn check_mapping(
-    old_order: usize,
-    old_labels: &[u8],
-    old_edges: &[u8],
-    new_order: usize,
-    new_labels: &[u8],
-    new_edges: &[u8],
+pub fn check_mapping<'a>(
+    orders: Orders,
+    labels: Labels<'a>,
+    edges: Edges<'a>,
     mapping: &[u8],
 ) -> MappingAnswer
-    ensures { λ r. ⌜ mappingOutcome r ≡ checkOutcome (problem (graph «old_order» (now («old_labels» .entry)) (now («old_edges» .entry))) (graph «new_order» (now («new_labels» .entry)) (now («new_edges» .entry)))) (now (mapping .entry)) ⌝ }
+    ensures { λ r. ⌜ mappingOutcome r ≡ checkOutcome (lent orders (labels .entry) (edges .entry)) (now (mapping .entry)) ⌝ }
 {
-    match check_problem(
-        old_order,
-        old_labels,
-        old_edges,
-        new_order,
-        new_labels,
-        new_edges,
-    ) {
-        Soundness::Flawed(flaw) => MappingAnswer::Flawed(flaw),
-        Soundness::Sound => check_rows(
-            old_order,
-            old_labels,
-            old_edges,
-            new_order,
-            new_labels,
-            new_edges,
-            mapping,
-        ),
+    match problem::check_problem(orders, labels, edges) {
+        ProblemAnswer::Flawed(flaw) => MappingAnswer::Flawed(flaw),
+        ProblemAnswer::Sound => check_rows(orders, labels, edges, mapping),
     }
 }

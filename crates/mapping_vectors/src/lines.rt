@@ -1,6 +1,5 @@
 // A line of the output: the case's name, and the size or the refusal's number with its rows.
 
-use graph::Flaw;
 use libc::STDOUT_FILENO;
 use mapping::MappingAnswer;
 use mapping::OldVertex;
@@ -10,27 +9,19 @@ fn number(n: usize) {
     io::print_decimal(STDOUT_FILENO, n as u64);
 }
 
-fn refused(n: usize) {
+fn refused(answer: MappingAnswer) {
     io::write_all(STDOUT_FILENO, b"refused");
-    number(n);
+    number(mapping::mapping_number(answer) as usize);
 }
 
-fn refused_row(n: usize, row: OldVertex) {
-    refused(n);
+fn refused_row(answer: MappingAnswer, row: OldVertex) {
+    refused(answer);
     number(row.0);
 }
 
-fn refused_rows(n: usize, row: OldVertex, earlier: OldVertex) {
-    refused_row(n, row);
+fn refused_rows(answer: MappingAnswer, row: OldVertex, earlier: OldVertex) {
+    refused_row(answer, row);
     number(earlier.0);
-}
-
-fn flaw_number(flaw: Flaw) -> usize {
-    match flaw {
-        Flaw::Tables => 10,
-        Flaw::Labels => 11,
-        Flaw::Edges => 12,
-    }
 }
 
 fn write_answer(answer: MappingAnswer) {
@@ -39,23 +30,23 @@ fn write_answer(answer: MappingAnswer) {
             io::write_all(STDOUT_FILENO, b"size");
             number(size);
         }
-        MappingAnswer::Flawed(flaw) => {
-            refused(flaw_number(flaw));
+        MappingAnswer::Flawed(_) => {
+            refused(answer);
         }
         MappingAnswer::Length => {
-            refused(18);
+            refused(answer);
         }
         MappingAnswer::NoVertex(row) => {
-            refused_row(19, row);
+            refused_row(answer, row);
         }
-        MappingAnswer::SamePartner(row, earlier) => {
-            refused_rows(20, row, earlier);
+        MappingAnswer::SameImage(row, earlier) => {
+            refused_rows(answer, row, earlier);
         }
         MappingAnswer::LabelsDiffer(row) => {
-            refused_row(21, row);
+            refused_row(answer, row);
         }
         MappingAnswer::EdgesDiffer(row, earlier) => {
-            refused_rows(22, row, earlier);
+            refused_rows(answer, row, earlier);
         }
     }
 }

@@ -18,12 +18,12 @@ fn case(name: &[u8], old: &[u8], old_harm: Harm, new: &[u8], new_harm: Harm, lis
     let new_labels_lent = tables::labels_lent(new_harm);
     let new_edges_lent = tables::edges_lent(new_harm);
     let answer = mapping::check_mapping(
-        old_order,
-        &old_labels[..old_labels_lent],
-        &old_edges[..old_edges_lent],
-        new_order,
-        &new_labels[..new_labels_lent],
-        &new_edges[..new_edges_lent],
+        [old_order, new_order],
+        [
+            &old_labels[..old_labels_lent],
+            &new_labels[..new_labels_lent],
+        ],
+        [&old_edges[..old_edges_lent], &new_edges[..new_edges_lent]],
         list,
     );
     lines::write_line(name, answer);

@@ -1,6 +1,6 @@
 // The tables that a case lends: a graph read from its bytes, and then harmed in at most one way.
 
-use graph::ReadAnswer;
+use graph_reader::ReadAnswer;
 use libc::STDOUT_FILENO;
 ghost use mathlib.Core.Path.{_≡_};
 ghost use Prim.Native.Nat.{_≤_};
@@ -23,7 +23,7 @@ pub enum Harm {
 
 // The graph's order. Bytes that hold no graph are told of in the output.
 fn read(bytes: &[u8], labels: &mut [u8], edges: &mut [u8]) -> usize {
-    match graph::read_graph(bytes, labels, edges) {
+    match graph_reader::read_graph(bytes, labels, edges) {
         ReadAnswer::Order(order) => order,
         ReadAnswer::Tables => {
             io::write_all(STDOUT_FILENO, b"no tables\n");

@@ -1,4 +1,4 @@
-// Reads old.chart, new.chart and standard input, and writes what `report::refit` says of them.
+// Reads old.chart, new.chart and standard input, and writes what `refit_text::refit` says of them.
 
 use libc::STDIN_FILENO;
 use libc::STDOUT_FILENO;
@@ -46,7 +46,7 @@ fn main() {
     let mut input = [0u8; 10];
     let input_count = read_all(STDIN_FILENO, &mut input);
     let mut out = [0u8; 8192];
-    let answer = report::refit(
+    let answer = refit_text::refit(
         &old[..old_count],
         &new[..new_count],
         &input[..input_count],

@@ -8,7 +8,7 @@ use native.Mathlib.Omega.{arith}
 use lib.Dec.{ltb}
 use lib.ListN.{length, getD, length-append}
 use borrow.Author.Tests.{ltb-true, ltb-false, lt-ltb, le-ltb}
-use Rattle.report.specs.Decimal.{digit, digits, decimal}
+use Rattle.report.specs.Decimal.{digit, digits, decimal, readOn, AllDigits}
 
 -- the definition, by its test
 digits-low : (f n : ℕ) → ltb n 10 ≡ true → digits (suc f) n ≡ digit n ∷ []
@@ -73,11 +73,7 @@ decimal-length =
         let shorter = tenth k (div-lt-iff-lt-mul (omega arith) .1 (rw (← (pow-suc 10 (suc k))) h)) in
         omega (arith, shorter, length-decimal-high n l)
 
--- Digits read from the first on, after digits that read as r.
-pub readOn : ℕ → List ℕ → ℕ
-readOn r [] = r
-readOn r (d ∷ l) = readOn (r * 10 + (d - 48)) l
-
+-- digits read after others, from what these read as
 readOn-append : (r : ℕ) (l m : List ℕ) → readOn r (l ++ m) ≡ readOn (readOn r l) m
 unfolding readOn
 readOn-append r [] m = refl
@@ -94,11 +90,6 @@ decimal-reads =
     ∙ readOn-append 0 (decimal (n / 10)) (digit (n % 10) ∷ [])
     ∙ ap (λ (r : ℕ). r * 10 + (digit (n % 10) - 48)) tenth
     ∙ omega arith)
-
--- Each byte of a text is a digit.
-pub AllDigits : List ℕ → Type 0
-AllDigits [] = Unit
-AllDigits (d ∷ l) = (48 ≤ d) × (d ≤ 57) × AllDigits l
 
 allDigits-append : (l m : List ℕ) → AllDigits l → AllDigits m → AllDigits (l ++ m)
 unfolding AllDigits

@@ -6,8 +6,8 @@ use Prim.Native.Nat.{ℕ, _≤_}
 use native.Mathlib.Omega.{arith}
 use lib.Dec.{leb}
 use lib.ListN.{length, drop, length-append}
-use Rattle.graph.specs.Answers.{accepted, refused}
-use Rattle.graph.specs.Writing.{Writing, overwrite, fill}
+use Rattle.answers.specs.Answer.{accepted, refused}
+use Rattle.answers.specs.Output.{Writing, overwrite, fill}
 use Rattle.report.specs.declared.ReportAnswer.{ReportAnswer}
 use Rattle.report.specs.declared.ReportAnswer.the-variants.{Written}
 use Rattle.report.specs.Report.{writtenOf}

@@ -6,9 +6,9 @@ use native.Mathlib.Nat.{zero-add}
 use borrow.Author.Tests.{le-leb, lt-leb}
 use lib.ListN.{length, take, drop}
 use lib.Seq.{take-at}
-use Rattle.graph.specs.Answers.{accepted, refused}
-use Rattle.graph.specs.Writing.{Writing, fill}
-use Rattle.graph.proofs.Stores.{sets-front}
+use Rattle.answers.specs.Answer.{accepted, refused}
+use Rattle.answers.specs.Output.{Writing, fill}
+use Rattle.answers.proofs.Stores.{sets-front}
 use Rattle.report.specs.Lines.{Put}
 
 -- A buffer that is too short stays as it was.

@@ -4,8 +4,4 @@ pub mod PutRuns
 pub mod PutTexts
 pub mod ReportCases
 pub mod TextLengths
-pub mod RefitLength
 pub mod FilledBuffer
-pub mod GraphRead
-pub mod ProgramExample
-pub mod SearchReport

@@ -6,8 +6,8 @@ use Prim.Native.Nat.{ℕ, _+_, _≤_, _<_}
 use native.Mathlib.Nat.{add-zero}
 use lib.ListN.{length}
 use lib.Seq.{sets}
-use Rattle.graph.specs.Below.{runBelow}
-use Rattle.graph.proofs.Stores.{StoredTo, stored-more, stored-room, stored-all}
+use Rattle.bounded.specs.Below.{runBelow}
+use Rattle.answers.proofs.Stores.{StoredTo, stored-more, stored-room, stored-all}
 use Rattle.report.specs.Lines.{Put}
 
 -- Where a test holds, the first of its two texts is meant,

@@ -6,7 +6,7 @@ use native.Mathlib.Nat.{add-zero}
 use native.Mathlib.Omega.{arith}
 use lib.ListN.{length-append}
 use lib.Seq.{sets}
-use Rattle.graph.proofs.Stores.{sets-append}
+use Rattle.answers.proofs.Stores.{sets-append}
 use Rattle.report.specs.Lines.{Put}
 
 -- What holds of a text holds of an equal one.

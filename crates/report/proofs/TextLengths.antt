@@ -6,13 +6,13 @@ use native.Mathlib.Nat.{le-trans, mul-le-mul-left}
 use native.Mathlib.Omega.{arith}
 use lib.Dec.{lit≤, eqb}
 use lib.ListN.{length, getD, length-append}
-use Rattle.graph.specs.Below.{runBelow}
-use Rattle.graph.proofs.Below.{length-runBelow, sumBelow-le, sumBelow-same}
+use Rattle.bounded.specs.Below.{runBelow}
+use Rattle.bounded.proofs.Below.{length-runBelow, sumBelow-le, sumBelow-same}
 use Rattle.mapping.specs.Common.{unmapped, size}
 use Rattle.mapping.proofs.Size.{size-max}
 use Rattle.report.specs.Decimal.{decimal}
-use Rattle.report.specs.Lines.{numberLine, sizeWord, removeWord, fitWord, stateLine, sizeLine, keepLine, keepPart, keepLines, removePart, removeLines, isFree, fitPart, fitLines}
-use Rattle.report.specs.Report.{vertexLines, headLines, heldLines}
+use Rattle.report.specs.Lines.{numberLine, sizeWord, removeWord, fitWord, stateLine, sizeLine, keepLine, keepText, keepLines, removeText, removeLines, isFree, fitText, fitLines}
+use Rattle.report.specs.Report.{vertexLines, headLines, incumbentLines}
 use Rattle.report.proofs.Decimals.{decimal-length}
 
 -- a number of 64 bits
@@ -35,19 +35,19 @@ length-cond : (t : Bool) (a b : List ℕ) (k : ℕ) → length a ≤ k → lengt
 length-cond true a b k p q = p
 length-cond false a b k p q = q
 
--- at most 64 parts of at most k bytes
+-- at most 64 texts of at most k bytes
 length-run : (n k : ℕ) (f : ℕ → List ℕ) → n ≤ 64 → ((i : ℕ) → i < n → length (f i) ≤ k) → length (runBelow n f) ≤ k * 64
 length-run n k f h each =
-    let parts : length (runBelow n f) ≤ k * n =
+    let texts : length (runBelow n f) ≤ k * n =
     rw (length-runBelow n f, ← (sumBelow-same n k)) (sumBelow-le n (λ i. length (f i)) (λ i. k) each) in
-    le-trans parts (mul-le-mul-left k h)
+    le-trans texts (mul-le-mul-left k h)
 
 -- l is a mapping of at most 64 vertices
 module _ (l : List ℕ) (few : length l ≤ 64) (bytes : (i : ℕ) → Word (getD l i 0)) where
   length-keepLines : length (keepLines l) ≤ 47 * 64
   unfolding keepLines
   length-keepLines =
-      length-run (length l) 47 (keepPart l) few
+      length-run (length l) 47 (keepText l) few
       (λ i h.
       length-cond (eqb (getD l i 0) unmapped) [] (keepLine i (getD l i 0)) 47 (omega arith)
       (length-keepLine i (getD l i 0) (omega arith) (bytes i)))
@@ -55,19 +55,19 @@ module _ (l : List ℕ) (few : length l ≤ 64) (bytes : (i : ℕ) → Word (get
   length-removeLines : length (removeLines l) ≤ 28 * 64
   unfolding removeLines
   length-removeLines =
-      length-run (length l) 28 (removePart l) few
+      length-run (length l) 28 (removeText l) few
       (λ i h.
       length-cond (eqb (getD l i 0) unmapped) (numberLine removeWord i) [] 28 (length-numberLine removeWord i (omega arith)) (omega arith))
 
   length-fitLines : (m : ℕ) → m ≤ 64 → length (fitLines m l) ≤ 25 * 64
   unfolding fitLines
   length-fitLines m some =
-      length-run m 25 (fitPart l) some
+      length-run m 25 (fitText l) some
       (λ v h. length-cond (isFree l v) (numberLine fitWord v) [] 25 (length-numberLine fitWord v (omega arith)) (omega arith))
 
-  length-heldLines : (holds : Bool) (m : ℕ) → m ≤ 64 → length (heldLines holds m l) ≤ 100 * 64
+  length-incumbentLines : (holds : Bool) (m : ℕ) → m ≤ 64 → length (incumbentLines holds m l) ≤ 100 * 64
   unfolding vertexLines
-  length-heldLines holds m some =
+  length-incumbentLines holds m some =
       let all : length (vertexLines m l) ≤ 100 * 64 =
       simp length-append (omega (arith, length-keepLines, length-removeLines, length-fitLines m some)) in
       length-cond holds (vertexLines m l) [] (100 * 64) all (omega arith)
@@ -89,7 +89,7 @@ module _ (l : List ℕ) (few : length l ≤ 64) (bytes : (i : ℕ) → Word (get
 
   -- The lines of an accepted call fit into 8,192 bytes.
   pub length-accepted : (finished holds : Bool) (steps ceiling m : ℕ) → Word steps → Word ceiling → m ≤ 64
-      → length (headLines finished holds l steps ceiling ++ heldLines holds m l) ≤ 8192
+      → length (headLines finished holds l steps ceiling ++ incumbentLines holds m l) ≤ 8192
   length-accepted finished holds steps ceiling m p q some =
-      let both = length-append (headLines finished holds l steps ceiling) (heldLines holds m l) in
-      omega (arith, both, length-headLines finished holds steps ceiling p q, length-heldLines holds m some)
+      let both = length-append (headLines finished holds l steps ceiling) (incumbentLines holds m l) in
+      omega (arith, both, length-headLines finished holds steps ceiling p q, length-incumbentLines holds m some)

@@ -1,7 +1,7 @@
 -- A number in decimal digits, as 01's "The refit program" prints it: the fewest digits, the highest first.
 use mathlib.Core.Bool.{true, false}
 use mathlib.Core.List.{List, [], _∷_, _++_}
-use Prim.Native.Nat.{ℕ, zero, suc, _+_, _/_, _%_}
+use Prim.Native.Nat.{ℕ, zero, suc, _+_, _*_, _-_, _/_, _%_, _≤_}
 use lib.Dec.{ltb}
 
 -- the ASCII code of a digit
@@ -15,3 +15,13 @@ digits (suc fuel) n = elim (ltb n 10) [ true ↦ digit n ∷ [] | false ↦ digi
 
 abbrev pub decimal : ℕ → List ℕ
 decimal n = digits (suc n) n
+
+-- digits read from the first on, after digits that read as r
+unfoldable pub readOn : ℕ → List ℕ → ℕ
+readOn r [] = r
+readOn r (d ∷ l) = readOn (r * 10 + (d - 48)) l
+
+-- each byte of a text is a digit
+unfoldable pub AllDigits : List ℕ → Type 0
+AllDigits [] = Unit
+AllDigits (d ∷ l) = (48 ≤ d) × (d ≤ 57) × AllDigits l

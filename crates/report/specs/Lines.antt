@@ -6,7 +6,7 @@ use Prim.Native.Nat.{ℕ, _+_}
 use lib.Dec.{eqb}
 use lib.ListN.{length, getD}
 use lib.Seq.{sets}
-use Rattle.graph.specs.Below.{allBelow, runBelow}
+use Rattle.bounded.specs.Below.{allBelow, runBelow}
 use Rattle.mapping.specs.Common.{unmapped, size}
 use Rattle.report.specs.Decimal.{decimal}
 
@@ -53,29 +53,29 @@ sizeLine holds l =
 abbrev pub keepLine : ℕ → ℕ → List ℕ
 keepLine i v = keepWord ++ decimal i ++ (32 ∷ []) ++ decimal v ++ (10 ∷ [])
 
-abbrev pub keepPart : List ℕ → ℕ → List ℕ
-keepPart l i = cond (eqb (getD l i 0) unmapped) [] (keepLine i (getD l i 0))
+abbrev pub keepText : List ℕ → ℕ → List ℕ
+keepText l i = cond (eqb (getD l i 0) unmapped) [] (keepLine i (getD l i 0))
 
 unfoldable pub keepLines : List ℕ → List ℕ
-keepLines l = runBelow (length l) (keepPart l)
+keepLines l = runBelow (length l) (keepText l)
 
 -- "then come remove for old parts left out"
-abbrev pub removePart : List ℕ → ℕ → List ℕ
-removePart l i = cond (eqb (getD l i 0) unmapped) (numberLine removeWord i) []
+abbrev pub removeText : List ℕ → ℕ → List ℕ
+removeText l i = cond (eqb (getD l i 0) unmapped) (numberLine removeWord i) []
 
 unfoldable pub removeLines : List ℕ → List ℕ
-removeLines l = runBelow (length l) (removePart l)
+removeLines l = runBelow (length l) (removeText l)
 
--- the new vertex v is no old vertex's partner
+-- the new vertex v is the image of no old vertex
 unfoldable pub isFree : List ℕ → ℕ → Bool
 isFree l v = allBelow (length l) (λ i. not (eqb (getD l i 0) v))
 
 -- "and fit for unpaired new parts, each rising"; m is the new order
-abbrev pub fitPart : List ℕ → ℕ → List ℕ
-fitPart l v = cond (isFree l v) (numberLine fitWord v) []
+abbrev pub fitText : List ℕ → ℕ → List ℕ
+fitText l v = cond (isFree l v) (numberLine fitWord v) []
 
 unfoldable pub fitLines : ℕ → List ℕ → List ℕ
-fitLines m l = runBelow m (fitPart l)
+fitLines m l = runBelow m (fitText l)
 
 -- a text put at a place of a buffer: the place after it, and the buffer then
 pub record Put (text before : List ℕ) (at place : ℕ) (buffer : List ℕ) : Type 0 where

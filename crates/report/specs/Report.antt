@@ -4,9 +4,9 @@ use mathlib.Core.List.{List, [], _++_}
 use Prim.Native.Nat.{ℕ}
 use lib.Dec.{leb}
 use lib.ListN.{take}
-use Rattle.graph.specs.Answers.{Answer, passed, accepted, refused, refusedAt}
-use Rattle.graph.specs.Writing.{Writing, fill}
-use Rattle.search.specs.declared.Checkpoint.{Checkpoint}
+use Rattle.answers.specs.Answer.{Answer, accepted, refused, onAnswer}
+use Rattle.answers.specs.Output.{Writing, fill}
+use Rattle.search.specs.declared.checkpoint.Checkpoint.{Checkpoint}
 use Rattle.report.specs.declared.ReportAnswer.{ReportAnswer}
 use Rattle.report.specs.declared.ReportAnswer.the-variants.{Written, Orders, TooShort}
 use Rattle.report.specs.Lines.{numberLine, stateLine, stepsWord, fenceWord, refusedWord, sizeLine, keepLines, removeLines, fitLines}
@@ -21,14 +21,14 @@ headLines finished holds l steps ceiling =
     stateLine finished ++ sizeLine holds l ++ numberLine stepsWord steps ++ numberLine fenceWord ceiling
 
 -- "nothing held prints size none and no part lines"
-abbrev pub heldLines : Bool → ℕ → List ℕ → List ℕ
-heldLines holds m l = cond holds (vertexLines m l) []
+abbrev pub incumbentLines : Bool → ℕ → List ℕ → List ℕ
+incumbentLines holds m l = cond holds (vertexLines m l) []
 
 -- n is the old order, m the new one
 unfoldable pub acceptedText : ℕ → ℕ → ℕ → Checkpoint → List ℕ
 acceptedText n m ceiling c =
     let l = take n (c .incumbent) in
-    headLines (c .finished) (c .holds) l (c .steps) ceiling ++ heldLines (c .holds) m l
+    headLines (c .finished) (c .holds) l (c .steps) ceiling ++ incumbentLines (c .holds) m l
 
 -- "A refusal prints one line, refused and its number"
 abbrev pub refusedText : ℕ → List ℕ
@@ -36,10 +36,8 @@ refusedText number = numberLine refusedWord number
 
 -- `passed` is no answer of a search call
 abbrev pub reportText : ℕ → ℕ → Answer → Checkpoint → List ℕ
-reportText n m passed c = []
-reportText n m (accepted ceiling) c = acceptedText n m ceiling c
-reportText n m (refused number) c = refusedText number
-reportText n m (refusedAt number at) c = refusedText number
+reportText n m answer c =
+    onAnswer [] (λ ceiling. acceptedText n m ceiling c) (λ number. refusedText number) (λ number at. refusedText number) answer
 
 abbrev pub reportAnswer : ReportAnswer → Answer
 reportAnswer (Written count) = accepted count

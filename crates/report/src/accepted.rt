@@ -6,7 +6,7 @@ ghost use mathlib.Core.List.{_++_};
 ghost use Prim.Native.Nat.{_+_, _≤_};
 ghost use lib.ListN.{length};
 ghost use Rattle.report.specs.Lines.{Put};
-ghost use Rattle.report.specs.Report.{headLines, heldLines};
+ghost use Rattle.report.specs.Report.{headLines, incumbentLines};
 
 pub fn put_head(
     finished: bool,
@@ -26,9 +26,15 @@ pub fn put_head(
 }
 
 // The lines of the vertices, if a mapping is held.
-pub fn put_held(holds: bool, new_order: usize, mapping: &[u8], out: &mut [u8], at: usize) -> usize
-    requires { ⌜ at + length (heldLines holds «new_order» (now mapping)) ≤ length (now out) ⌝ }
-    ensures { λ r. ⌜ Put (heldLines holds «new_order» (now (mapping .entry))) (now (out .entry)) at r (now (out .exit)) ⌝ }
+pub fn put_incumbent(
+    holds: bool,
+    new_order: usize,
+    mapping: &[u8],
+    out: &mut [u8],
+    at: usize,
+) -> usize
+    requires { ⌜ at + length (incumbentLines holds «new_order» (now mapping)) ≤ length (now out) ⌝ }
+    ensures { λ r. ⌜ Put (incumbentLines holds «new_order» (now (mapping .entry))) (now (out .entry)) at r (now (out .exit)) ⌝ }
 {
     if holds {
         return vertices::put_vertices(new_order, mapping, out, at);
@@ -47,9 +53,10 @@ pub fn put_accepted(
     out: &mut [u8],
 ) -> usize
     requires { ⌜ (length (now mapping) ≤ 64) × («new_order» ≤ 64) × (8192 ≤ length (now out)) ⌝ }
-    ensures text { λ r. ⌜ Put (headLines finished holds (now (mapping .entry)) steps ceiling ++ heldLines holds «new_order» (now (mapping .entry))) (now (out .entry)) 0 r (now (out .exit)) ⌝ }
+    ensures text { λ r. ⌜ Put (headLines finished holds (now (mapping .entry)) steps ceiling ++ incumbentLines holds «new_order» (now (mapping .entry)))
+        (now (out .entry)) 0 r (now (out .exit)) ⌝ }
     ensures fits { λ r. ⌜ r ≤ 8192 ⌝ }
 {
     let end = put_head(finished, holds, mapping, steps, ceiling, out);
-    put_held(holds, new_order, mapping, out, end)
+    put_incumbent(holds, new_order, mapping, out, end)
 }

@@ -1,20 +1,18 @@
-// What the refit program prints, as bytes in a lent buffer.
+// What the refit program prints of a search call, as bytes in a lent buffer.
 
 mod accepted;
-mod answers;
-mod program;
 mod text;
 mod vertices;
 
+use graph::MAX_ORDER;
 use search::Checkpoint;
 use search::SearchAnswer;
 ghost use mathlib.Core.Path.{_≡_};
 ghost use Prim.Native.Nat.{_≤_};
 ghost use lib.ListN.{length};
-ghost use Rattle.graph.specs.Writing.{fill};
+ghost use Rattle.answers.specs.Output.{fill};
 ghost use Rattle.search.specs.Answers.{searchAnswer};
 ghost use Rattle.report.specs.Report.{acceptedText, refusedText, writtenOf, writingReport};
-ghost use Rattle.report.specs.Program.{refitText};
 
 // How many bytes were written; or an order above 64, or too short a buffer.
 pub enum ReportAnswer {
@@ -24,7 +22,7 @@ pub enum ReportAnswer {
 }
 
 // A text, if there is room for it.
-fn write_text(text: &[u8], out: &mut [u8]) -> ReportAnswer
+pub fn write_text(text: &[u8], out: &mut [u8]) -> ReportAnswer
     ensures { λ r. ⌜ writtenOf r (now (out .exit)) ≡ fill (now (text .entry)) (now (out .entry)) ⌝ }
 {
     if out.len() < text.len() {
@@ -34,11 +32,11 @@ fn write_text(text: &[u8], out: &mut [u8]) -> ReportAnswer
 }
 
 // The line of a refusal.
-fn write_refusal(number: u64, out: &mut [u8]) -> ReportAnswer
+pub fn write_refusal(number: u8, out: &mut [u8]) -> ReportAnswer
     ensures { λ r. ⌜ writtenOf r (now (out .exit)) ≡ fill (refusedText number) (now (out .entry)) ⌝ }
 {
     let mut line = [0u8; 32];
-    let end = text::put_number_line(b"refused ", number, &mut line, 0);
+    let end = text::put_number_line(b"refused ", number as u64, &mut line, 0);
     write_text(&line[..end], out)
 }
 
@@ -77,29 +75,16 @@ pub fn write_report(
 ) -> ReportAnswer
     ensures { λ r. ⌜ writtenOf r (now (out .exit)) ≡ writingReport «old_order» «new_order» (searchAnswer answer) checkpoint (now (out .entry)) ⌝ }
 {
-    if 64 < old_order {
+    if MAX_ORDER < old_order {
         return ReportAnswer::Orders;
     }
-    if 64 < new_order {
+    if MAX_ORDER < new_order {
         return ReportAnswer::Orders;
     }
     match answer {
         SearchAnswer::Ceiling(ceiling) => {
             write_accepted(old_order, new_order, ceiling, checkpoint, out)
         }
-        SearchAnswer::Flawed(flaw) => write_refusal(answers::flaw_number(flaw), out),
-        SearchAnswer::OutOfShape => write_refusal(14, out),
-        SearchAnswer::FewWords => write_refusal(15, out),
-        SearchAnswer::ManySteps => write_refusal(16, out),
+        _ => write_refusal(search::search_number(answer), out),
     }
-}
-
-// All that the program prints, of the bytes of both graphs and of standard input, to the front of `out`.
-pub fn refit(old_bytes: &[u8], new_bytes: &[u8], input: &[u8], out: &mut [u8]) -> ReportAnswer
-    ensures { λ r. ⌜ writtenOf r (now (out .exit)) ≡ fill (refitText (now («old_bytes» .entry)) (now («new_bytes» .entry)) (now (input .entry))) (now (out .entry)) ⌝ }
-{
-    if input.len() != 9 {
-        return write_text(b"refused input\n", out);
-    }
-    program::run(old_bytes, new_bytes, input, out)
 }

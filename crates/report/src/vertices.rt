@@ -1,6 +1,7 @@
 // The lines of the vertices: those kept, those to be removed, those to be fitted.
 
 use super::text;
+use mapping::UNMAPPED;
 ghost use mathlib.Core.Path.{_≡_};
 ghost use Prim.Native.Nat.{_+_, _≤_, _<_};
 ghost use lib.ListN.{length};
@@ -14,7 +15,7 @@ pub fn put_kept(mapping: &[u8], out: &mut [u8], start: usize) -> usize
     let mut at = start;
     let mut i = 0;
     while i < mapping.len() {
-        if mapping[i] != 255 {
+        if mapping[i] != UNMAPPED {
             at = text::put_keep(i, mapping[i], out, at);
         }
         i += 1;
@@ -29,7 +30,7 @@ pub fn put_removed(mapping: &[u8], out: &mut [u8], start: usize) -> usize
     let mut at = start;
     let mut i = 0;
     while i < mapping.len() {
-        if mapping[i] == 255 {
+        if mapping[i] == UNMAPPED {
             at = text::put_remove(i, out, at);
         }
         i += 1;
@@ -37,7 +38,7 @@ pub fn put_removed(mapping: &[u8], out: &mut [u8], start: usize) -> usize
     at
 }
 
-// Whether the new vertex v is no old vertex's partner.
+// Whether the new vertex v is the image of no old vertex.
 pub fn is_free(mapping: &[u8], v: usize) -> bool
     ensures { λ r. ⌜ r ≡ isFree (now (mapping .entry)) v ⌝ }
 {

@@ -4,16 +4,17 @@ use mathlib.Core.List.{List, [], _++_}
 use Prim.Native.Nat.{ℕ, _-_, _≤_}
 use native.Mathlib.Omega.{arith}
 use lib.ListN.{length, take, drop, replicate, drop-of-length-le}
+use Rattle.answers.specs.Answer.{accepted}
 use Rattle.graph.specs.Graph.{graph}
-use Rattle.graph.specs.Answers.{accepted}
-use Rattle.mapping.specs.Problem.{Problem, SoundProblem}
+use Rattle.problem.specs.Problem.{Problem, SoundProblem}
 use Rattle.mapping.specs.Common.{size}
 use Rattle.search_tree.specs.Rules.{rulesOf}
+use Rattle.search_tree.specs.Search.{searchOf}
 use Rattle.search_tree.specs.Trees.{Reached}
 use Rattle.search_tree.specs.Walk.{State}
 use Rattle.search_tree.specs.Ceiling.{ceiling}
 use Rattle.search.specs.declared.walk.Walk.{Walk}
-use Rattle.search.specs.declared.Checkpoint.{Checkpoint}
+use Rattle.search.specs.declared.checkpoint.Checkpoint.{Checkpoint}
 use Rattle.search.specs.Checkpoints.{checkpointOf, stateOf, InShape}
 use Rattle.search.specs.Call.{Called, visits, advance}
 use Rattle.search.specs.Words.{Masks, Words}
@@ -46,7 +47,7 @@ module _ {P : Problem} {c : Checkpoint} (call : Accepted P c) where
 
   -- The checkpoint's path is in bounds.
   pub call-bounds : {masks ws : List ℕ} → Masks (graph (P .new .order) [] (P .new .edges)) masks → 4160 ≤ length ws
-      → InBounds (P .old .order) (P .old .edges) masks (c .path) (c .depth) (size (take (c .depth) (c .path))) ws
+      → InBounds (P .old .edges) masks (c .path) (c .depth) (size (take (c .depth) (c .path))) ws
   call-bounds filled room =
       reached-in-bounds (c .path) (c .depth) (call-setting filled) shape-reached (call .shape .depth-max) (call .path-long) room
 
@@ -86,7 +87,7 @@ module _ {P : Problem} {c : Checkpoint} (call : Accepted P c) where
     }
       where
         s : State
-        s = visits (rulesOf P) (c .minimum) budget (stateOf (P .old .order) c)
+        s = visits (searchOf P) (c .minimum) budget (stateOf (P .old .order) c)
 
         state-is : walkState (P .old .order) walk (end .path) (end .incumbent) ≡ s
         state-is = starts .state-is ∙ visited-state (call .sound) (call .shape) (call .path-long) visited

@@ -3,8 +3,8 @@ use mathlib.Core.Path.{_≡_, refl, sym, ap, _∙_}
 use mathlib.Core.List.{List, [], _∷_, _++_}
 use Prim.Native.Nat.{ℕ, _+_}
 use native.Mathlib.Nat.{add-zero, zero-add, add-assoc}
-use Rattle.mapping.specs.Problem.{Problem}
-use Rattle.search.specs.declared.Checkpoint.{Checkpoint}
+use Rattle.problem.specs.Problem.{Problem}
+use Rattle.search.specs.declared.checkpoint.Checkpoint.{Checkpoint}
 use Rattle.search.specs.Checkpoints.{freshCheckpoint}
 use Rattle.search.specs.Calls.{Call, called, results, leaves, counted, summed, CallIn, upTo, reached, resultOf}
 

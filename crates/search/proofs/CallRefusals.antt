@@ -6,10 +6,10 @@ use Prim.Native.Nat.{ℕ, _≤_, _<_}
 use native.Mathlib.Omega.{arith}
 use lib.ListN.{length, take, drop, replicate, drop-of-length-le, length-take}
 use borrow.Author.Tests.{le-leb, lt-leb}
-use Rattle.graph.specs.Answers.{passed, refused}
-use Rattle.mapping.specs.Problem.{Problem, problemAnswer}
-use Rattle.search.specs.declared.Checkpoint.{Checkpoint}
-use Rattle.search.specs.Checkpoints.{inShape}
+use Rattle.answers.specs.Answer.{passed, refused}
+use Rattle.problem.specs.Problem.{Problem}
+use Rattle.search.specs.declared.checkpoint.Checkpoint.{Checkpoint}
+use Rattle.search.specs.Checking.{checkpointAnswer}
 use Rattle.search.specs.Call.{Called, wordsNeeded, refuse, advance, countFits, searchCall}
 
 -- what is changed of a list's first m entries, with its later ones put back
@@ -19,33 +19,27 @@ front-put-back m zeros l =
     ∙ ap (λ (t : List ℕ). t ++ drop m l) (append-nil zeros)
 
 module _ (P : Problem) (c : Checkpoint) (budget : ℕ) (workspace : List ℕ) where
-  -- Unsound graphs are refused first.
-  pub call-flawed : (number : ℕ) → problemAnswer P ≡ refused number → refuse c workspace number ≡ searchCall P c budget workspace
+  -- Unsound graphs, and then a checkpoint out of shape, are refused first.
+  pub call-refused : (number : ℕ) → checkpointAnswer P c ≡ refused number → refuse c workspace number ≡ searchCall P c budget workspace
   unfolding searchCall
-  call-flawed number e = rw e
+  call-refused number e = rw e
 
-  module _ (sound : problemAnswer P ≡ passed) where
-    -- Then a checkpoint out of shape.
-    pub call-shape : inShape P c ≡ false → refuse c workspace 14 ≡ searchCall P c budget workspace
+  module _ (fits : checkpointAnswer P c ≡ passed) where
+    -- Then too few words.
+    pub call-words : length workspace < wordsNeeded → refuse c workspace 15 ≡ searchCall P c budget workspace
     unfolding searchCall
-    call-shape off = rw (sound, off)
+    call-words few = rw (fits, lt-leb wordsNeeded (length workspace) few)
 
-    module _ (shape : inShape P c ≡ true) where
-      -- Then too few words.
-      pub call-words : length workspace < wordsNeeded → refuse c workspace 15 ≡ searchCall P c budget workspace
+    module _ (room : wordsNeeded ≤ length workspace) where
+      -- Then steps that would not count in 64 bits.
+      pub call-count : countFits c budget ≡ false → refuse c workspace 16 ≡ searchCall P c budget workspace
       unfolding searchCall
-      call-words few = rw (sound, shape, lt-leb wordsNeeded (length workspace) few)
+      call-count off = rw (fits, le-leb wordsNeeded (length workspace) room, off)
 
-      module _ (room : wordsNeeded ≤ length workspace) where
-        -- Then steps that would not count in 64 bits.
-        pub call-count : countFits c budget ≡ false → refuse c workspace 16 ≡ searchCall P c budget workspace
-        unfolding searchCall
-        call-count off = rw (sound, shape, le-leb wordsNeeded (length workspace) room, off)
-
-        -- What is not refused is accepted.
-        pub call-accepted : countFits c budget ≡ true → advance P c budget workspace ≡ searchCall P c budget workspace
-        unfolding searchCall
-        call-accepted fits = rw (sound, shape, le-leb wordsNeeded (length workspace) room, fits)
+      -- What is not refused is accepted.
+      pub call-accepted : countFits c budget ≡ true → advance P c budget workspace ≡ searchCall P c budget workspace
+      unfolding searchCall
+      call-accepted counts = rw (fits, le-leb wordsNeeded (length workspace) room, counts)
 
   -- An accepted call on the words that it needs is one on all of them, with the later ones put back.
   pub front-advanced : (r : Called) → r ≡ advance P c budget (take wordsNeeded workspace)

@@ -7,27 +7,27 @@ use Prim.Native.Nat.{ℕ, _-_, _≤_}
 use native.Mathlib.Omega.{arith}
 use lib.ListN.{length, take, replicate, length-take}
 use lib.Seq.{take-append-seam, take-at}
-use Rattle.mapping.specs.Problem.{Problem}
+use Rattle.problem.specs.Problem.{Problem}
 use Rattle.search_tree.specs.Walk.{State}
-use Rattle.search.specs.declared.Checkpoint.{Checkpoint}
-use Rattle.search.specs.Checkpoints.{isHeld, heldBytes, checkpointOf, stateOf, InShape}
+use Rattle.search.specs.declared.checkpoint.Checkpoint.{Checkpoint}
+use Rattle.search.specs.Checkpoints.{hasIncumbent, incumbentBytes, checkpointOf, stateOf, InShape}
 use Rattle.search.proofs.Padding.{padded-back}
 
 -- what a checkpoint says is held is what the state holds
-held-back : (n : ℕ) (held : Option (List ℕ)) → ((h : List ℕ) → held ≡ some h → length h ≡ n)
-    → cond (isHeld held) (some (take n (heldBytes held))) none ≡ held
-held-back n none full = refl
-held-back n (some h) full = ap some (take-at h (replicate (64 - length h) 0) n (full h refl))
+incumbent-back : (n : ℕ) (held : Option (List ℕ)) → ((h : List ℕ) → held ≡ some h → length h ≡ n)
+    → cond (hasIncumbent held) (some (take n (incumbentBytes held))) none ≡ held
+incumbent-back n none full = refl
+incumbent-back n (some h) full = ap some (take-at h (replicate (64 - length h) 0) n (full h refl))
 
 -- The checkpoint of a state stands for that state.
-pub state-of-checkpoint : (n minimum : ℕ) (s : State) → ((h : List ℕ) → s .held ≡ some h → length h ≡ n)
+pub state-of-checkpoint : (n minimum : ℕ) (s : State) → ((h : List ℕ) → s .incumbent ≡ some h → length h ≡ n)
     → stateOf n (checkpointOf minimum s) ≡ s
 unfolding stateOf checkpointOf
 state-of-checkpoint n minimum s full = λ i. record {
   steps = s .steps;
   path = take-append-seam (s .path) (replicate (64 - length (s .path)) 0) i;
   finished = s .finished;
-  held = held-back n (s .held) full i;
+  incumbent = incumbent-back n (s .incumbent) full i;
 }
 
 module _ (P : Problem) (c : Checkpoint) (few : P .old .order ≤ 64)
@@ -51,10 +51,10 @@ module _ (P : Problem) (c : Checkpoint) (few : P .old .order ≤ 64)
       depth-same : length (take (c .depth) (c .path)) ≡ c .depth
       depth-same = omega (arith, length-take (c .depth) (c .path), shape .depth-max)
 
-      holds-same : (b : Bool) → isHeld (held b) ≡ b
+      holds-same : (b : Bool) → hasIncumbent (held b) ≡ b
       holds-same true = refl
       holds-same false = refl
 
-      incumbent-same : (b : Bool) → c .holds ≡ b → heldBytes (held b) ≡ c .incumbent
+      incumbent-same : (b : Bool) → c .holds ≡ b → incumbentBytes (held b) ≡ c .incumbent
       incumbent-same true e = padded-back (P .old .order) (c .incumbent) incumbent-long few (shape .incumbent-rest)
       incumbent-same false e = padded-back 0 (c .incumbent) incumbent-long (omega arith) (λ i h. shape .none-rest e i)

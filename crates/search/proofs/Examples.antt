@@ -9,21 +9,22 @@ use native.Mathlib.Omega.{arith}
 use lib.Dec.{leb, lit<}
 use lib.ListN.{getD, replicate, length-replicate, drop-of-length-le}
 use borrow.Author.Tests.{leb-true}
+use Rattle.bounded.specs.Below.{allBelow, sumBelow, runBelow}
+use Rattle.answers.specs.Answer.{Answer, passed, accepted, refused, refusedAt}
 use Rattle.graph.specs.Graph.{Graph, graph, Sound}
-use Rattle.graph.specs.Answers.{Answer, passed, accepted, refused, refusedAt}
-use Rattle.graph.specs.Below.{allBelow, sumBelow, runBelow}
-use Rattle.graph.specs.Reading.{Reading, reading, readFrom, judge, refuseAt}
-use Rattle.graph.proofs.ReadSound.{reading-sound}
-use Rattle.mapping.specs.Problem.{Problem, SoundProblem, problem, allowed, consistent}
+use Rattle.graph_reader.specs.Reading.{Reading, reading, readFrom, judge, refuseAt}
+use Rattle.graph_reader.proofs.ReadSound.{reading-sound}
+use Rattle.problem.specs.Problem.{Problem, SoundProblem, problem, allowed, consistent}
 use Rattle.mapping.specs.Common.{mappedFrom, size}
 use Rattle.search_tree.specs.Rules.{rulesOf}
+use Rattle.search_tree.specs.Search.{searchOf}
 use Rattle.search_tree.specs.Node.{candidate, candidates, upperBound, choices, children, choicesAfter, laterSiblings, openNodes}
 use Rattle.search_tree.specs.Walk.{State, visitPath, visit, after}
 use Rattle.search_tree.specs.Ceiling.{topBound, ceiling}
-use Rattle.search.specs.declared.Checkpoint.{Checkpoint}
+use Rattle.search.specs.declared.checkpoint.Checkpoint.{Checkpoint}
 use Rattle.search.specs.Checkpoints.{freshCheckpoint, checkpointOf}
 use Rattle.search.specs.Call.{Called, wordsNeeded, arrive, searchCall}
-use Rattle.search.specs.ThirdProperty.{heldIn}
+use Rattle.search.specs.ThirdProperty.{incumbentIn}
 use Rattle.search.proofs.WalkCall.{fresh-call}
 
 abbrev orderOf : Answer → ℕ
@@ -80,11 +81,11 @@ call P minimum budget = searchCall P (freshCheckpoint minimum) budget workspace
 
 -- budget 100 finishes the search: with so many steps, that incumbent and that ceiling, and all words 0
 abbrev Ends : Problem → ℕ → ℕ → Option (List ℕ) → ℕ → Type 0
-Ends P minimum steps held top =
+Ends P minimum steps incumbent top =
     call P minimum 100
     ≡ record {
       answer = accepted top;
-      checkpoint = checkpointOf minimum (record { steps = steps; path = []; finished = true; held = held });
+      checkpoint = checkpointOf minimum (record { steps = steps; path = []; finished = true; incumbent = incumbent });
       workspace = replicate wordsNeeded 0;
     }
 
@@ -105,14 +106,14 @@ read-sound : (l : List ℕ) → bytes l ≡ true → (n : ℕ) → readTables l 
 read-sound l small n e = rw e (reading-sound (replicate 64 9) (replicate 4096 9) l (bytes-small l small) n e)
 
 module _ (P : Problem) (sound : SoundProblem P) (minimum budget : ℕ) (fits : budget < 2 ^ 64) where
-  arrives : call P minimum budget ≡ arrive minimum (rulesOf P) workspace (after (rulesOf P) minimum budget)
+  arrives : call P minimum budget ≡ arrive minimum (rulesOf P) workspace (after (searchOf P) minimum budget)
   unfolding workspace
   arrives = fresh-call P sound minimum budget workspace (omega (arith, length-replicate {A = ℕ} wordsNeeded 9)) fits
 
-  answers : (top : ℕ) → ceiling (rulesOf P) minimum (after (rulesOf P) minimum budget) ≡ top → call P minimum budget .answer ≡ accepted top
+  answers : (top : ℕ) → ceiling (rulesOf P) minimum (after (searchOf P) minimum budget) ≡ top → call P minimum budget .answer ≡ accepted top
   answers top e = ap (λ (r : Called). r .answer) arrives ∙ ap accepted e
 
-  checkpoint-at : (s : State) → after (rulesOf P) minimum budget ≡ s → call P minimum budget .checkpoint ≡ checkpointOf minimum s
+  checkpoint-at : (s : State) → after (searchOf P) minimum budget ≡ s → call P minimum budget .checkpoint ≡ checkpointOf minimum s
   checkpoint-at s e = ap (λ (r : Called). r .checkpoint) arrives ∙ ap (checkpointOf minimum) e
 
   clears : call P minimum budget .workspace ≡ replicate wordsNeeded 0
@@ -122,11 +123,11 @@ module _ (P : Problem) (sound : SoundProblem P) (minimum budget : ℕ) (fits : b
       ∙ ap (_++_ (replicate wordsNeeded 0)) (drop-of-length-le workspace {i = wordsNeeded} (omega (arith, length-replicate {A = ℕ} wordsNeeded 9)))
       ∙ append-nil (replicate wordsNeeded 0)
 
-ends : (P : Problem) → SoundProblem P → (minimum steps : ℕ) (held : Option (List ℕ)) (top : ℕ)
-    → after (rulesOf P) minimum 100 ≡ record { steps = steps; path = []; finished = true; held = held }
-    → ceiling (rulesOf P) minimum (after (rulesOf P) minimum 100) ≡ top → Ends P minimum steps held top
-ends P sound minimum steps held top walk fence = λ i. record {
-  answer = answers P sound minimum 100 (lit< tt) top fence i;
+ends : (P : Problem) → SoundProblem P → (minimum steps : ℕ) (incumbent : Option (List ℕ)) (top : ℕ)
+    → after (searchOf P) minimum 100 ≡ record { steps = steps; path = []; finished = true; incumbent = incumbent }
+    → ceiling (rulesOf P) minimum (after (searchOf P) minimum 100) ≡ top → Ends P minimum steps incumbent top
+ends P sound minimum steps incumbent top walk above = λ i. record {
+  answer = answers P sound minimum 100 (lit< tt) top above i;
   checkpoint = checkpoint-at P sound minimum 100 (lit< tt) _ walk i;
   workspace = clears P sound minimum 100 (lit< tt) i;
 }
@@ -159,9 +160,9 @@ pub marked-examples :
     -- P, floor 1: 1 0 255, 6 steps, fence 3
     Ends pair 1 6 (some (1 ∷ 0 ∷ 255 ∷ [])) 3
     -- P, floor 1, allowance 3: nothing held, fence 3
-    × ((heldIn pair (call pair 1 3 .checkpoint) ≡ none) × (call pair 1 3 .answer ≡ accepted 3))
+    × ((incumbentIn pair (call pair 1 3 .checkpoint) ≡ none) × (call pair 1 3 .answer ≡ accepted 3))
     -- P, floor 1, allowance 4: size 2, unfinished, fence 3
-    × ((heldIn pair (call pair 1 4 .checkpoint) ≡ some (1 ∷ 0 ∷ 255 ∷ [])) × (size (1 ∷ 0 ∷ 255 ∷ []) ≡ 2)
+    × ((incumbentIn pair (call pair 1 4 .checkpoint) ≡ some (1 ∷ 0 ∷ 255 ∷ [])) × (size (1 ∷ 0 ∷ 255 ∷ []) ≡ 2)
     × (call pair 1 4 .checkpoint .finished ≡ false) × (call pair 1 4 .answer ≡ accepted 3))
     -- P, floor 1, allowance 0: fence 4
     × (call pair 1 0 .answer ≡ accepted 4)
@@ -188,9 +189,9 @@ pub marked-examples :
 unfolding reading readFrom judge allBelow sumBelow runBelow allowed consistent mappedFrom candidate candidates upperBound choices children choicesAfter laterSiblings openNodes visitPath visit after topBound ceiling checkpointOf
 marked-examples = (
   ends pair pair-sound 1 6 (some (1 ∷ 0 ∷ 255 ∷ [])) 3 refl refl,
-  (ap (heldIn pair) (checkpoint-at pair pair-sound 1 3 (lit< tt) _ refl), answers pair pair-sound 1 3 (lit< tt) 3 refl),
+  (ap (incumbentIn pair) (checkpoint-at pair pair-sound 1 3 (lit< tt) _ refl), answers pair pair-sound 1 3 (lit< tt) 3 refl),
   (
-    ap (heldIn pair) (checkpoint-at pair pair-sound 1 4 (lit< tt) _ refl),
+    ap (incumbentIn pair) (checkpoint-at pair pair-sound 1 4 (lit< tt) _ refl),
     refl,
     ap (λ (c : Checkpoint). c .finished) (checkpoint-at pair pair-sound 1 4 (lit< tt) _ refl),
     answers pair pair-sound 1 4 (lit< tt) 3 refl,

@@ -6,35 +6,34 @@ use Prim.Native.Nat.{ℕ, zero-le, _+_, _≤_}
 use native.Mathlib.Omega.{arith}
 use lib.ListN.{length, drop, replicate}
 use borrow.Author.Tests.{le-leb}
-use Rattle.graph.specs.Answers.{Answer, passed, accepted}
-use Rattle.mapping.specs.Problem.{Problem, SoundProblem}
-use Rattle.mapping.proofs.ProblemPasses.{problem-passes}
+use Rattle.answers.specs.Answer.{Answer, passed, accepted}
+use Rattle.problem.specs.Problem.{Problem, SoundProblem}
 use Rattle.search_tree.specs.Rules.{Rules, rulesOf}
+use Rattle.search_tree.specs.Search.{Search, searchOf}
 use Rattle.search_tree.specs.Walk.{State, cutoff}
 use Rattle.search_tree.specs.Ceiling.{ceiling}
-use Rattle.search.specs.declared.Checkpoint.{Checkpoint}
+use Rattle.search.specs.declared.checkpoint.Checkpoint.{Checkpoint}
 use Rattle.search.specs.Checkpoints.{checkpointOf, stateOf, InShape}
-use Rattle.search.specs.Call.{Called, visits, wordsNeeded, arrive, advance, onSound, searchCall}
-use Rattle.search.specs.ThirdProperty.{heldIn}
+use Rattle.search.specs.Call.{Called, visits, wordsNeeded, arrive, advance, onPassed, searchCall}
+use Rattle.search.specs.ThirdProperty.{incumbentIn}
 use Rattle.search.proofs.RunTurn.{visits-finished as visits-stay}
-use Rattle.search.proofs.ShapeTest.{shape-test}
+use Rattle.search.proofs.CheckpointPasses.{shape-passes}
 use Rattle.search.proofs.CheckpointState.{checkpoint-of-state}
 
 -- Visits leave a finished search as it is.
-pub visits-finished : (R : Rules) (minimum k : ℕ) (s : State) → s .finished ≡ true → visits R minimum k s ≡ s
+pub visits-finished : (S : Search) (minimum k : ℕ) (s : State) → s .finished ≡ true → visits S minimum k s ≡ s
 unfolding visits
-visits-finished R minimum k s end = visits-stay R minimum s 0 k end zero-le
+visits-finished S minimum k s end = visits-stay S minimum s 0 k end zero-le
 
 -- a finished state's ceiling is its cutoff
-ceiling-finished : (R : Rules) (minimum : ℕ) (s : State) → s .finished ≡ true → ceiling R minimum s ≡ cutoff minimum (s .held)
+ceiling-finished : (R : Rules) (minimum : ℕ) (s : State) → s .finished ≡ true → ceiling R minimum s ≡ cutoff minimum (s .incumbent)
 unfolding ceiling
 ceiling-finished R minimum s end = rw end
 
 -- what a call does once all tests are passed
-past-tests : (a : Answer) (shape enough finished fits : Bool) (step full few off : Called) (refusal : ℕ → Called)
-    → a ≡ passed → shape ≡ true → enough ≡ true → finished ≡ true
-    → onSound a (cond shape (cond enough (cond (finished || fits) step full) few) off) refusal ≡ step
-past-tests a shape enough finished fits step full few off refusal p q r e = rw (p, q, r, e)
+past-tests : (a : Answer) (enough finished fits : Bool) (step full few : Called) (refusal : ℕ → Called)
+    → a ≡ passed → enough ≡ true → finished ≡ true → onPassed a (cond enough (cond (finished || fits) step full) few) refusal ≡ step
+past-tests a enough finished fits step full few refusal p r e = rw (p, r, e)
 
 module _ (P : Problem) (sound : SoundProblem P) (c : Checkpoint) (path-long : length (c .path) ≡ 64) (incumbent-long : length (c .incumbent) ≡ 64)
     (shape : InShape P c) where
@@ -50,14 +49,14 @@ module _ (P : Problem) (sound : SoundProblem P) (c : Checkpoint) (path-long : le
   pub finished-call : c .finished ≡ true → (budget : ℕ) (workspace : List ℕ) → wordsNeeded ≤ length workspace
       → searchCall P c budget workspace
       ≡ record {
-        answer = accepted (cutoff (c .minimum) (heldIn P c));
+        answer = accepted (cutoff (c .minimum) (incumbentIn P c));
         checkpoint = c;
         workspace = replicate wordsNeeded 0 ++ drop wordsNeeded workspace;
       }
   unfolding searchCall advance stateOf
   finished-call end budget workspace enough =
-      past-tests _ _ _ (c .finished) _ _ _ _ _ _ (problem-passes P sound) (shape-test P sound c .1 shape) (le-leb _ _ enough) end
-      ∙ ap (arrive (c .minimum) (rulesOf P) workspace) (visits-finished (rulesOf P) (c .minimum) budget (stateOf (P .old .order) c) end)
+      past-tests _ _ (c .finished) _ _ _ _ _ (shape-passes P c sound shape) (le-leb _ _ enough) end
+      ∙ ap (arrive (c .minimum) (rulesOf P) workspace) (visits-finished (searchOf P) (c .minimum) budget (stateOf (P .old .order) c) end)
       ∙ (λ i. record {
         answer = accepted (ceiling-finished (rulesOf P) (c .minimum) (stateOf (P .old .order) c) end i);
         checkpoint = back i;

@@ -8,11 +8,11 @@ use native.Mathlib.Nat.{le-refl}
 use native.Mathlib.Numerals.{add-one}
 use native.Mathlib.Omega.{arith}
 use lib.ListN.{length, take, set}
-use lib.Seq.{length-take-le, take-take}
+use lib.Seq.{take-take}
 use Rattle.bitset.specs.Least.{leastMember}
 use Rattle.bitset.specs.declared.Least.the-variants.{Member, Empty}
 use Rattle.bitset.proofs.LeastBelow.{leastBelow-Member}
-use Rattle.mapping.specs.Problem.{Problem, SoundProblem}
+use Rattle.problem.specs.Problem.{Problem, SoundProblem}
 use Rattle.mapping.specs.Common.{unmapped}
 use Rattle.mapping.proofs.Size.{counted, counted-mapped}
 use Rattle.search_tree.specs.Rules.{rulesOf}
@@ -20,18 +20,16 @@ use Rattle.search_tree.specs.Node.{extend, children}
 use Rattle.search_tree.proofs.Children.{Choice}
 use Rattle.search.specs.Words.{levelWord, Words}
 use Rattle.search.specs.Walking.{AtNode, Descends}
+use Rattle.search.proofs.ReadyWalk.{node-length}
 use Rattle.search.proofs.WordLevels.{words-same}
 use Rattle.search.proofs.WordChoices.{first-taken, only-left-out}
 use Rattle.search.proofs.StoredRow.{stored-prefix, stored-node}
 
 module _ {P : Problem} (sound : SoundProblem P) {path ws : List ℕ} {depth pairs : ℕ} (inner : depth < P .old .order)
     (node : AtNode P path depth pairs ws) (words : Words P path depth ws) where
-  own-length : length (take depth path) ≡ depth
-  own-length = length-take-le depth path (omega (arith, node .path-length, sound .old-sound .order-max))
-
   -- the node's words, over its own prefix
   own-words : Words P (take depth path) (length (take depth path)) ws
-  own-words = rw own-length (words-same path (take depth path) depth (sym (take-take depth depth path (le-refl depth))) words)
+  own-words = rw (node-length sound node) (words-same path (take depth path) depth (sym (take-take depth depth path (le-refl depth))) words)
 
   -- where v is the first choice, the path with v stored is the first child
   descends : {count v : ℕ} {rest : List (List ℕ)} → Choice (rulesOf P) (take depth path) v → count ≡ pairs + counted v
@@ -52,7 +50,7 @@ module _ {P : Problem} (sound : SoundProblem P) {path ws : List ℕ} {depth pair
   child-taken {v} e =
       let small = leastBelow-Member 64 _ e .below in
       let stored : v % 256 ≡ v = omega arith in
-      let first = first-taken P sound (omega (arith, own-length)) own-words {v = v} (rw (own-length, ← node .pairs-are) e) in
+      let first = first-taken P sound (omega (arith, node-length sound node)) own-words {v = v} (rw (node-length sound node, ← node .pairs-are) e) in
       let one = counted-mapped v (λ u. omega arith) in
       rw stored (descends (inr (first .isCandidate)) (omega arith) (first .children-are))
 
@@ -60,5 +58,5 @@ module _ {P : Problem} (sound : SoundProblem P) {path ws : List ℕ} {depth pair
   pub child-left-out : leastMember (levelWord ws pairs depth) ≡ Empty
       → Descends P path depth ws (record { depth = depth + 1; pairs = pairs; finished = false }) (set path depth unmapped)
   child-left-out e =
-      let first = only-left-out P sound (omega (arith, own-length)) own-words (rw (own-length, ← node .pairs-are) e) in
+      let first = only-left-out P sound (omega (arith, node-length sound node)) own-words (rw (node-length sound node, ← node .pairs-are) e) in
       descends (inl refl) (omega arith) (first .children-are)

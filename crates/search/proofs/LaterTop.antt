@@ -7,16 +7,15 @@ use native.Mathlib.Nat.{le-refl}
 use native.Mathlib.Omega.{arith}
 use lib.ListN.{length, getD, take, drop, take-append-drop}
 use lib.Seq.{length-take-le}
-use Rattle.mapping.specs.Problem.{Problem}
+use Rattle.problem.specs.Problem.{Problem}
 use Rattle.mapping.specs.Common.{unmapped, size}
 use Rattle.search_tree.specs.Rules.{rulesOf}
 use Rattle.search_tree.specs.Node.{upperBound, laterSiblings}
 use Rattle.search_tree.specs.Ceiling.{topBound}
 use Rattle.search_tree.proofs.OpenNodes.{laterSiblings-append}
 use Rattle.search.specs.Words.{SameLevels, openRows, Words}
-use Rattle.search.specs.Walking.{Setting, AtNode, InBounds}
+use Rattle.search.specs.Walking.{Setting, AtNode, AtRow, InBounds, levelTop}
 use Rattle.search.proofs.NodeWords.{size-mapped, size-take-max}
-use Rattle.search.proofs.RowTop.{levelTop}
 use Rattle.search.proofs.Levels.{same-none, same-more, openRows-same}
 use Rattle.search.proofs.WordLevels.{words-shorter, size-left-out, words-kept}
 use Rattle.search.proofs.WordBounds.{prefix-bound}
@@ -27,21 +26,20 @@ abbrev pub laterTop : Problem → List ℕ → ℕ → ℕ
 laterTop P path k = topBound (rulesOf P) (laterSiblings (rulesOf P) path k)
 
 -- The invariant: the greatest so far and the levels up to k make up all levels, and these are unchanged.
-pub record LevelsHead (n : ℕ) (edges masks path ws ws′ : List ℕ) (depth pairs least k left top : ℕ) : Type 0 where
+pub record LevelsHead (edges masks path ws ws′ : List ℕ) (depth pairs least k left top : ℕ) : Type 0 where
   pub k-max : k ≤ depth
   pub left-is : left ≡ size (take k path)
   pub kept : SameLevels left ws ws′
-  pub tops : (P : Problem) → Setting P n edges masks → AtNode P path depth pairs ws → max least (laterTop P path depth) ≡ max top (laterTop P path k)
+  pub tops : (P : Problem) → Setting P (P .old .order) edges masks → AtNode P path depth pairs ws → max least (laterTop P path depth) ≡ max top (laterTop P path k)
 
-module _ {n : ℕ} {edges masks path ws : List ℕ} {depth pairs : ℕ} (bounds : InBounds n edges masks path depth pairs ws) where
+module _ {edges masks path ws : List ℕ} {depth pairs : ℕ} (bounds : InBounds edges masks path depth pairs ws) where
   inside : depth ≤ length path
-  inside = omega (arith, bounds .path-length, bounds .order-max, bounds .depth-max)
+  inside = omega (arith, bounds .path-length, bounds .depth-max)
 
   -- A path's first entries are in bounds too, over a workspace as long.
   pub bounds-shorter : {k left : ℕ} {ws′ : List ℕ} → k ≤ depth → left ≡ size (take k path) → length ws′ ≡ length ws
-      → InBounds n edges masks path k left ws′
+      → InBounds edges masks path k left ws′
   bounds-shorter h e same = record {
-    order-max = bounds .order-max;
     edges-length = bounds .edges-length;
     masks-length = bounds .masks-length;
     path-length = bounds .path-length;
@@ -52,18 +50,18 @@ module _ {n : ℕ} {edges masks path ws : List ℕ} {depth pairs : ℕ} (bounds 
   }
 
   -- Before the first level, all are left.
-  pub levels-first : (least : ℕ) → LevelsHead n edges masks path ws ws depth pairs least depth pairs least
+  pub levels-first : (least : ℕ) → LevelsHead edges masks path ws ws depth pairs least depth pairs least
   levels-first least = record { k-max = le-refl depth; left-is = bounds .pairs-are; kept = same-none pairs ws; tops = λ P setting node. omega arith }
 
-  module _ {ws′ : List ℕ} {least k left top : ℕ} (row : ℕ) (next : k ≡ row + 1) (before : LevelsHead n edges masks path ws ws′ depth pairs least k left top) where
-    head : LevelsHead n edges masks path ws ws′ depth pairs least (row + 1) left top
+  module _ {ws′ : List ℕ} {least k left top : ℕ} (row : ℕ) (next : k ≡ row + 1) (before : LevelsHead edges masks path ws ws′ depth pairs least k left top) where
+    head : LevelsHead edges masks path ws ws′ depth pairs least (row + 1) left top
     head = rw next at before
 
     row-inside : row < length path
     row-inside = omega (arith, inside, head .k-max)
 
     -- A level that leaves its row out adds nothing.
-    pub level-left-out : getD path row 0 ≡ unmapped → LevelsHead n edges masks path ws ws′ depth pairs least row left top
+    pub level-left-out : getD path row 0 ≡ unmapped → LevelsHead edges masks path ws ws′ depth pairs least row left top
     level-left-out e = record {
       k-max = omega (arith, head .k-max);
       left-is = head .left-is ∙ size-left-out path row e;
@@ -87,26 +85,34 @@ module _ {n : ℕ} {edges masks path ws : List ℕ} {depth pairs : ℕ} (bounds 
       lower = same-more (head .kept) (left - 1) (omega arith) (same-none (left - 1) ws′)
 
       -- A level counts its later siblings,
-      pub level-counted : {ws″ : List ℕ} {above top′ : ℕ} → SameLevels (left - 1) ws′ ws″
-          → ((P : Problem) → Setting P n edges masks → Words P path row ws′ → above ≡ levelTop (rulesOf P) (take row path) (getD path row 0))
-          → top′ ≡ max top above → LevelsHead n edges masks path ws ws″ depth pairs least row (left - 1) top′
-      level-counted {ws″} {above} {top′} same counts e = record {
+      pub level-counted : {ws″ : List ℕ} {above top′ value : ℕ} → SameLevels (left - 1) ws′ ws″
+          → ((P : Problem) (path : List ℕ) → Setting P (P .old .order) edges masks → AtRow P path row (left - 1) ws′
+          → above ≡ levelTop (rulesOf P) (take row path) value)
+          → value ≡ getD path row 0
+          → top′ ≡ max top above → LevelsHead edges masks path ws ws″ depth pairs least row (left - 1) top′
+      level-counted {ws″} {above} {top′} {value} same counts is e = record {
         k-max = omega (arith, head .k-max);
         left-is = left-before;
         kept = same-more (head .kept) (left - 1) (omega arith) same;
         tops = λ P setting node.
             let words = words-kept P (setting .sound) (omega (arith, left-before)) lower (level-words node) in
-            omega (arith, head .tops P setting node, topBound-level (rulesOf P) path row, counts P setting words);
+            let at : AtRow P path row (left - 1) ws′ = record {
+              path-length = node .path-length;
+              row-max = omega (arith, head .k-max, node .depth-max);
+              pairs-are = left-before;
+              words = words;
+            } in
+            omega (arith, head .tops P setting node, topBound-level (rulesOf P) path row, rw is at (counts P path setting at));
       }
 
       -- and is passed over where its node's bound is not above the maximum so far.
-      pub level-skipped : left - 1 + 1 + openRows row (left - 1) ws′ ≤ top → LevelsHead n edges masks path ws ws′ depth pairs least row (left - 1) top
+      pub level-skipped : left - 1 + 1 + openRows row (left - 1) ws′ ≤ top → LevelsHead edges masks path ws ws′ depth pairs least row (left - 1) top
       level-skipped h = record {
         k-max = omega (arith, head .k-max);
         left-is = left-before;
         kept = lower;
         tops = λ P setting node.
-            let row-is : row < P .old .order = omega (arith, setting .order-is, head .k-max, bounds .depth-max) in
+            let row-is : row < P .old .order = omega (arith, head .k-max, node .depth-max) in
             let few : size (take row path) < 64 = omega (arith, row-is, setting .sound .old-sound .order-max, size-take-max path row) in
             let is : upperBound (rulesOf P) (take row path) ≡ left - 1 + openRows row (left - 1) ws =
             rw left-before (prefix-bound P (setting .sound) (omega (arith, row-inside)) (level-words node) few) in
@@ -115,8 +121,8 @@ module _ {n : ℕ} {edges masks path ws : List ℕ} {depth pairs : ℕ} (bounds 
       }
 
   -- At the root the maximum is that of all levels.
-  pub levels-all : {ws′ : List ℕ} {least k left top : ℕ} → k ≡ 0 → LevelsHead n edges masks path ws ws′ depth pairs least k left top
-      → (P : Problem) → Setting P n edges masks → AtNode P path depth pairs ws → top ≡ max least (laterTop P (take depth path) depth)
+  pub levels-all : {ws′ : List ℕ} {least k left top : ℕ} → k ≡ 0 → LevelsHead edges masks path ws ws′ depth pairs least k left top
+      → (P : Problem) → Setting P (P .old .order) edges masks → AtNode P path depth pairs ws → top ≡ max least (laterTop P (take depth path) depth)
   levels-all {ws′} {least} {k} {left} {top} e head P setting node =
       let R = rulesOf P in
       let same = laterSiblings-append R (take depth path) (drop depth path) depth (omega (arith, length-take-le depth path inside)) in

@@ -14,7 +14,7 @@ use Rattle.bitset.specs.Count.{countBelow}
 use Rattle.bitset.proofs.Membership.{member-zero}
 use Rattle.bitset.proofs.SetOf.{setOf-lt, member-setOf, no-member}
 use Rattle.bitset.proofs.CountBelow.{countBelow-congr}
-use Rattle.graph.specs.Below.{sumBelow}
+use Rattle.bounded.specs.Below.{sumBelow}
 use Rattle.graph.specs.Graph.{place}
 use Rattle.search.specs.Words.{openSet, levelWord, ExactSet, SameLevels, openRows, meetRows}
 

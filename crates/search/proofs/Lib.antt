@@ -1,6 +1,7 @@
 pub mod AdvancedCall
 pub mod CallLists
 pub mod CallRefusals
+pub mod CheckpointPasses
 pub mod CheckpointState
 pub mod ClearedBytes
 pub mod Examples
@@ -16,6 +17,7 @@ pub mod NextSibling
 pub mod NodeWords
 pub mod Padding
 pub mod ReachedBounds
+pub mod ReadyWalk
 pub mod RebuildTurn
 pub mod RefineTurn
 pub mod ResumedWalk

@@ -11,7 +11,7 @@ use lib.Seq.{length-take-le, take-take, getD-take}
 use Rattle.bitset.specs.Least.{leastAbove}
 use Rattle.bitset.specs.declared.Least.the-variants.{Member, Empty}
 use Rattle.bitset.proofs.LeastBelow.{leastAbove-Member}
-use Rattle.mapping.specs.Problem.{Problem, SoundProblem}
+use Rattle.problem.specs.Problem.{Problem, SoundProblem}
 use Rattle.mapping.specs.Common.{unmapped, size}
 use Rattle.mapping.proofs.Size.{counted, counted-mapped, size-nil}
 use Rattle.search_tree.specs.Rules.{rulesOf}
@@ -22,6 +22,7 @@ use Rattle.search_tree.proofs.OpenNodes.{laterSiblings-append}
 use Rattle.search_tree.proofs.Reached.{reached-root, reached-take}
 use Rattle.search.specs.Words.{levelWord, Words}
 use Rattle.search.specs.Walking.{AtNode, Retreats}
+use Rattle.search.proofs.ReadyWalk.{node-length}
 use Rattle.search.proofs.WordLevels.{size-left-out, words-shorter}
 use Rattle.search.proofs.WordChoices.{next-taken, siblings-taken, siblings-last, siblings-left-out, siblings-root}
 use Rattle.search.proofs.NodeWords.{size-take-max, size-mapped}
@@ -59,7 +60,7 @@ module _ {P : Problem} (sound : SoundProblem P) {path ws : List ℕ} {depth pair
   -- the later siblings depend on the path's first entries alone
   own-siblings : laterSiblings (rulesOf P) (take depth path) depth ≡ laterSiblings (rulesOf P) path depth
   own-siblings =
-      let short = length-take-le depth path own-inside in
+      let short = node-length sound node in
       sym (rw take-append-drop at (laterSiblings-append (rulesOf P) (take depth path) (drop depth path) depth (omega arith)))
 
   -- All rows are passed: there is no later sibling.
@@ -93,7 +94,7 @@ module _ {P : Problem} (sound : SoundProblem P) {path ws : List ℕ} {depth pair
         let max = sound .new-sound .order-max in
         ⊎-elim (λ u. absurd (mapped u))
         (λ c. omega (arith, candidate-value (rulesOf P) (take row (take depth path)) row (getD path row 0) c))
-        (rw (getD-take depth path row 0 row-below) at (node .reached .entry row (omega (arith, row-below, length-take-le depth path own-inside))))
+        (rw (getD-take depth path row 0 row-below) at (node .reached .entry row (omega (arith, row-below, node-length sound node))))
 
     row-words : Words P path row ws
     row-words = words-shorter (omega (arith, row-below)) (node .words)

@@ -7,10 +7,10 @@ use Prim.Native.Nat.{ℕ, _+_, _-_, _≤_, _<_}
 use native.Mathlib.Omega.{arith}
 use lib.Dec.{leb, ltb, eqb}
 use lib.ListN.{length, getD, take, length-take}
-use lib.Seq.{length-take-le, getD-take}
+use lib.Seq.{getD-take}
 use Rattle.bitset.specs.Members.{member}
 use Rattle.bitset.proofs.CountBelow.{countBelow-le}
-use Rattle.mapping.specs.Problem.{Problem}
+use Rattle.problem.specs.Problem.{Problem}
 use Rattle.mapping.specs.Common.{unmapped, size}
 use Rattle.mapping.proofs.Size.{size-max, counted-mapped}
 use Rattle.search_tree.specs.Rules.{rulesOf}
@@ -19,6 +19,7 @@ use Rattle.search_tree.specs.Trees.{Reached}
 use Rattle.search_tree.proofs.Candidates.{candidate-value}
 use Rattle.search.specs.Words.{openSet, metWord, Refined, openRows, meetRows, Words}
 use Rattle.search.specs.Walking.{Setting, AtNode, InBounds}
+use Rattle.search.proofs.ReadyWalk.{decided-length}
 use Rattle.search.proofs.WordLevels.{size-extend, size-left-out, take-extend, words-shorter, words-left-out, words-refined}
 use Rattle.search.proofs.WordBounds.{prefix-bound, taken-bound}
 
@@ -39,7 +40,7 @@ pub size-mapped : (path : List ℕ) (row : ℕ) → row < length path → (getD 
 size-mapped path row h mapped =
     rw (take-extend path row h) (omega (arith, size-extend (take row path) (getD path row 0), counted-mapped (getD path row 0) mapped))
 
-module _ {n : ℕ} {edges masks path : List ℕ} {depth pairs : ℕ} {ws : List ℕ} (bounds : InBounds n edges masks path depth pairs ws) where
+module _ {edges masks path : List ℕ} {depth pairs : ℕ} {ws : List ℕ} (bounds : InBounds edges masks path depth pairs ws) where
   -- A node has no more pairs than rows.
   pub pairs-max : pairs ≤ depth
   pairs-max = omega (arith, bounds .pairs-are, size-take-max path depth)
@@ -52,7 +53,7 @@ module _ {n : ℕ} {edges masks path : List ℕ} {depth pairs : ℕ} {ws : List 
   pub pairs-before : 0 < depth → (getD path (depth - 1) 0 ≡ unmapped → ⊥) → pairs ≡ size (take (depth - 1) path) + 1
   pairs-before h mapped =
       let deeper : depth - 1 + 1 ≡ depth = omega arith in
-      let inside : depth - 1 < length path = omega (arith, bounds .depth-max, bounds .order-max, bounds .path-length) in
+      let inside : depth - 1 < length path = omega (arith, bounds .depth-max, bounds .path-length) in
       bounds .pairs-are ∙ (rw deeper at (size-mapped path (depth - 1) inside mapped))
 
   -- Where the last row is left out, there are fewer pairs than rows.
@@ -66,8 +67,7 @@ module _ {P : Problem} {n : ℕ} {edges masks : List ℕ} (setting : Setting P n
   -- a row of the path that is not left out took a new vertex
   taken-value : (row : ℕ) → row < depth → (getD path row 0 ≡ unmapped → ⊥) → getD path row 0 < P .new .order
   taken-value row h mapped =
-      let max = setting .sound .old-sound .order-max in
-      let inside : length (take depth path) ≡ depth = length-take-le depth path (omega arith) in
+      let inside = decided-length (setting .sound) path depth long within in
       let entry = reached .entry row (omega arith) in
       let same : getD (take depth path) row 0 ≡ getD path row 0 = getD-take depth path row 0 h in
       ⊎-elim (λ out. absurd (mapped (sym same ∙ out)))

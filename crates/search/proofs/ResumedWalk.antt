@@ -11,17 +11,18 @@ use lib.ListN.{length, take, replicate}
 use lib.Seq.{length-take-le, take-at, take-take}
 use borrow.Author.Tests.{ltb-true}
 use denote.Floats.{is-true}
-use Rattle.mapping.specs.Problem.{Problem, SoundProblem}
+use Rattle.problem.specs.Problem.{Problem, SoundProblem}
 use Rattle.mapping.specs.Common.{size}
-use Rattle.search_tree.specs.Rules.{rulesOf}
+use Rattle.search_tree.specs.Search.{searchOf}
 use Rattle.search_tree.specs.Walk.{cutoff}
 use Rattle.search.specs.declared.walk.Walk.{Walk}
-use Rattle.search.specs.declared.Checkpoint.{Checkpoint}
-use Rattle.search.specs.Checkpoints.{padded, isHeld, heldBytes, checkpointOf, stateOf, InShape}
+use Rattle.search.specs.declared.checkpoint.Checkpoint.{Checkpoint}
+use Rattle.search.specs.Checkpoints.{padded, hasIncumbent, incumbentBytes, checkpointOf, stateOf, InShape}
 use Rattle.search.specs.Call.{countFits, visits}
 use Rattle.search.specs.Walking.{Setting, AtNode, Ready, walkState, CountFits, Lent, Starts, Resumes, Visited}
 use Rattle.search.proofs.CheckpointState.{state-of-checkpoint}
 use Rattle.search.proofs.Padding.{padded-length}
+use Rattle.search.proofs.ReadyWalk.{ready-length}
 use Rattle.search.proofs.ShapeKept.{visits-shape, state-in-shape}
 use Rattle.search.proofs.WordLevels.{words-same}
 
@@ -34,10 +35,10 @@ cutoff-counted n minimum number holds incumbent =
 
 -- The bytes that are used of an incumbent, padded, are what the walk holds.
 held-stored : (n used : ℕ) (holds : Bool) (incumbent : List ℕ) → ((holds ≡ true) × (used ≡ n)) ⊎ ((holds ≡ false) × (used ≡ 0))
-    → padded (take used incumbent) ≡ heldBytes (cond holds (some (take n incumbent)) none)
+    → padded (take used incumbent) ≡ incumbentBytes (cond holds (some (take n incumbent)) none)
 held-stored n used holds incumbent = ⊎-elim (λ taken. rw (taken .1, taken .0)) (λ left. rw (left .1, left .0))
 
-holds-stored : (holds : Bool) (l : List ℕ) → holds ≡ isHeld (cond holds (some l) none)
+holds-stored : (holds : Bool) (l : List ℕ) → holds ≡ hasIncumbent (cond holds (some l) none)
 holds-stored true l = refl
 holds-stored false l = refl
 
@@ -125,7 +126,7 @@ start-count {n} {c} {w} budget fits starts e =
 
 module _ {P : Problem} {n : ℕ} {edges masks : List ℕ} {c : Checkpoint} {w end : Walk} {path incumbent ws : List ℕ} {r : Checkpoint} (budget : ℕ)
     (setting : Setting P n edges masks) (starts : Starts n c w)
-    (made : walkState n end path incumbent ≡ visits (rulesOf P) (c .minimum) budget (walkState n w (c .path) (c .incumbent)))
+    (made : walkState n end path incumbent ≡ visits (searchOf P) (c .minimum) budget (walkState n w (c .path) (c .incumbent)))
     (ready : Ready P (c .minimum) end path incumbent ws) (stored : r ≡ checkpointOf (c .minimum) (walkState n end path incumbent)) where
   -- the checkpoint that is stored is at the walk's node
   stored-node : AtNode P (r .path) (r .depth) (size (take (r .depth) (r .path))) ws
@@ -139,7 +140,7 @@ module _ {P : Problem} {n : ℕ} {edges masks : List ℕ} {c : Checkpoint} {w en
       inside = omega (arith, ready .node .depth-max, setting .sound .old-sound .order-max)
 
       depth : length front ≡ end .place .depth
-      depth = length-take-le (end .place .depth) path (omega (arith, inside, ready .node .path-length))
+      depth = ready-length setting ready
 
       same : front ≡ take (end .place .depth) (padded front)
       same = sym (take-at front (replicate (64 - length front) 0) (end .place .depth) depth)
@@ -150,7 +151,7 @@ module _ {P : Problem} {n : ℕ} {edges masks : List ℕ} {c : Checkpoint} {w en
   -- A run of visits leaves the checkpoint after them.
   pub run-visited : Visited P budget c ws r
   run-visited = record {
-    checkpoint-is = stored ∙ ap (checkpointOf (c .minimum)) (made ∙ ap (visits (rulesOf P) (c .minimum) budget) begun);
+    checkpoint-is = stored ∙ ap (checkpointOf (c .minimum)) (made ∙ ap (visits (searchOf P) (c .minimum) budget) begun);
     node = stored-node;
   }
     where
@@ -159,8 +160,8 @@ module _ {P : Problem} {n : ℕ} {edges masks : List ℕ} {c : Checkpoint} {w en
 
 -- The checkpoint that visits leave stands for the state after them.
 pub visited-state : {P : Problem} {budget : ℕ} {c r : Checkpoint} {ws : List ℕ} → SoundProblem P → InShape P c → length (c .path) ≡ 64
-    → Visited P budget c ws r → stateOf (P .old .order) r ≡ visits (rulesOf P) (c .minimum) budget (stateOf (P .old .order) c)
+    → Visited P budget c ws r → stateOf (P .old .order) r ≡ visits (searchOf P) (c .minimum) budget (stateOf (P .old .order) c)
 visited-state {P} {budget} {c} sound shape long visited =
     ap (stateOf (P .old .order)) (visited .checkpoint-is)
     ∙ state-of-checkpoint (P .old .order) (c .minimum) _
-    (λ h e. visits-shape (rulesOf P) (c .minimum) budget (stateOf (P .old .order) c) (state-in-shape P sound c long shape) .held-shape h e .full)
+    (λ h e. visits-shape (searchOf P) (c .minimum) budget (stateOf (P .old .order) c) (state-in-shape P sound c long shape) .incumbent-shape h e .full)

@@ -7,25 +7,26 @@ use Prim.Native.Nat.{ℕ, _+_, _*_, _≤_, _<_}
 use native.Mathlib.Decide.{decLt}
 use native.Mathlib.Omega.{arith}
 use lib.Dec.{ltb, eqb}
-use lib.ListN.{length, getD, set, length-set}
+use lib.ListN.{length, set, length-set}
 use borrow.Author.Tests.{lt-ltb, le-ltb, ltb-true}
 use Rattle.bitset.specs.Members.{setOf, insert}
+use Rattle.problem.specs.Problem.{Problem, allowed}
 use Rattle.search.specs.Words.{RootWords}
 use Rattle.search.proofs.LevelStores.{FilledTo, filled-none, filled-more, filled-skip, level-word, level-member}
 
--- a row's word at the root: the new vertices of its label
-abbrev pub rootWord : List ℕ → ℕ → List ℕ → ℕ → ℕ
-rootWord labels m newLabels r = setOf m (λ v. eqb (getD labels r 0) (getD newLabels v 0))
+-- a row's word at the root: the new vertices that it may lie on
+abbrev pub rootWord : Problem → ℕ → ℕ
+rootWord P r = setOf 64 (allowed P r)
 
 -- The invariant: level 0 is filled for the rows below k.
-abbrev pub RootTo : List ℕ → ℕ → List ℕ → List ℕ → List ℕ → ℕ → ℕ → Type 0
-RootTo labels m newLabels ws ws′ k rows = FilledTo (λ r. ltb r k) (rootWord labels m newLabels) (64 * 0) ws ws′ rows
+abbrev pub RootTo : Problem → List ℕ → List ℕ → ℕ → ℕ → Type 0
+RootTo P ws ws′ k rows = FilledTo (λ r. ltb r k) (rootWord P) (64 * 0) ws ws′ rows
 
-module _ (labels : List ℕ) (m : ℕ) (newLabels ws : List ℕ) where
-  pub root-none : RootTo labels m newLabels ws ws 0 0
+module _ (P : Problem) (ws : List ℕ) where
+  pub root-none : RootTo P ws ws 0 0
   root-none = filled-none _ _ _ _ (λ r h. le-ltb r 0 (omega arith))
 
-  module _ {ws′ : List ℕ} {k rows : ℕ} (s : RootTo labels m newLabels ws ws′ k rows) (row : k < 64) (room : 4160 ≤ length ws) where
+  module _ {ws′ : List ℕ} {k rows : ℕ} (s : RootTo P ws ws′ k rows) (row : k < 64) (room : 4160 ≤ length ws) where
     others : (r : ℕ) → r < 64 → r ≢ k → ltb r (k + 1) ≡ ltb r k
     others r h n = go (decLt r k)
       where
@@ -34,19 +35,19 @@ module _ (labels : List ℕ) (m : ℕ) (newLabels ws : List ℕ) where
         go (no l) = rw (le-ltb r k (omega arith), le-ltb r (k + 1) (omega arith)) refl
 
     -- A row's word is stored, and gathered where it is not empty,
-    pub root-more : {v : ℕ} → v ≡ rootWord labels m newLabels k → eqb v 0 ≡ false → RootTo labels m newLabels ws (set ws′ k v) (k + 1) (insert rows k)
+    pub root-more : {v : ℕ} → v ≡ rootWord P k → eqb v 0 ≡ false → RootTo P ws (set ws′ k v) (k + 1) (insert rows k)
     root-more {v} is full =
         filled-more s (λ r. ltb r (k + 1)) k row (le-ltb k k (omega arith)) (lt-ltb k (k + 1) (omega arith)) others k v (omega arith) (omega arith) is full
 
     -- and not where it is.
-    pub root-skip : {v : ℕ} → v ≡ rootWord labels m newLabels k → eqb v 0 ≡ true → RootTo labels m newLabels ws (set ws′ k v) (k + 1) rows
+    pub root-skip : {v : ℕ} → v ≡ rootWord P k → eqb v 0 ≡ true → RootTo P ws (set ws′ k v) (k + 1) rows
     root-skip {v} is empty =
         filled-skip s (λ r. ltb r (k + 1)) k row (le-ltb k k (omega arith)) (lt-ltb k (k + 1) (omega arith)) others k v (omega arith) (omega arith) is empty
 
   -- Once the set is stored, level 0 holds the words of all rows.
-  pub root-all : {ws′ : List ℕ} {n k rows : ℕ} → k ≡ n → n ≤ 64 → 4160 ≤ length ws → RootTo labels m newLabels ws ws′ k rows
-      → RootWords n labels m newLabels ws (set ws′ 4096 rows)
-  root-all {ws′} {n} {k} {rows} all few room s = record {
+  pub root-all : {ws′ : List ℕ} {k rows : ℕ} → k ≡ P .old .order → P .old .order ≤ 64 → 4160 ≤ length ws → RootTo P ws ws′ k rows
+      → RootWords P ws (set ws′ 4096 rows)
+  root-all {ws′} {k} {rows} all few room s = record {
     words = length-set ws′ 4096 rows ∙ s .kept-length;
     root = λ r h. level-word {pairs = 0} s (omega arith) room r (omega arith) ∙ rw (lt-ltb r k (omega arith)) refl;
     exact = record {

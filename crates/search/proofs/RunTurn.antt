@@ -7,22 +7,22 @@ use native.Mathlib.Numerals.{add-one}
 use native.Mathlib.Decide.{le-ind}
 use native.Mathlib.Omega.{arith}
 use lib.ListN.{length}
-use Rattle.mapping.specs.Problem.{Problem}
-use Rattle.search_tree.specs.Rules.{Rules, rulesOf}
+use Rattle.problem.specs.Problem.{Problem}
+use Rattle.search_tree.specs.Search.{Search, searchOf}
 use Rattle.search_tree.specs.Walk.{State, visit}
 use Rattle.search_tree.proofs.Steps.{visit-steps, visit-finished}
 use Rattle.search.specs.declared.walk.Walk.{Walk}
-use Rattle.search.specs.Walking.{Setting, Ready, walkState, CountFits, Lent}
+use Rattle.search.specs.Walking.{Setting, Ready, walkState, Arrives, CountFits, Lent}
 use Rattle.search.specs.Call.{visits}
 use Rattle.search.proofs.StepTurn.{Visits}
 
 -- Once k visits finish the walk, more visits change nothing.
-pub visits-finished : (R : Rules) (minimum : ℕ) (s : State) (k j : ℕ) → visits R minimum k s .finished ≡ true → k ≤ j
-    → visits R minimum j s ≡ visits R minimum k s
+pub visits-finished : (S : Search) (minimum : ℕ) (s : State) (k j : ℕ) → visits S minimum k s .finished ≡ true → k ≤ j
+    → visits S minimum j s ≡ visits S minimum k s
 unfolding visits
-visits-finished R minimum s k j end =
-    le-ind (λ j. visits R minimum j s ≡ visits R minimum k s) refl
-    (λ j h same. ap (visit R minimum) same ∙ visit-finished R minimum (visits R minimum k s) end) j
+visits-finished S minimum s k j end =
+    le-ind (λ j. visits S minimum j s ≡ visits S minimum k s) refl
+    (λ j h same. ap (visit S minimum) same ∙ visit-finished S minimum (visits S minimum k s) end) j
 
 -- The invariant: the walk made so many visits of those in the budget, whatever the problem, and is ready for another.
 pub record RanTo (budget n : ℕ) (edges masks path incumbent ws : List ℕ) (w : Walk)
@@ -31,9 +31,8 @@ pub record RanTo (budget n : ℕ) (edges masks path incumbent ws : List ℕ) (w 
   pub kept-length : length ws′ ≡ length ws
   pub counts : CountFits w′ (budget - made)
   pub lent : Lent n edges masks w′ path′ incumbent′ ws′
-  pub state : (P : Problem) (minimum : ℕ) → Setting P n edges masks → Ready P minimum w path incumbent ws
-      → walkState n w′ path′ incumbent′ ≡ visits (rulesOf P) minimum made (walkState n w path incumbent)
-  pub ready : (P : Problem) (minimum : ℕ) → Setting P n edges masks → Ready P minimum w path incumbent ws → Ready P minimum w′ path′ incumbent′ ws′
+  pub arrives : (P : Problem) (minimum : ℕ) → Setting P n edges masks → Ready P minimum w path incumbent ws
+      → Arrives P minimum n (visits (searchOf P) minimum made (walkState n w path incumbent)) w′ path′ incumbent′ ws′
 
 module _ {budget n : ℕ} {edges masks path incumbent ws : List ℕ} {w : Walk} where
   -- At first no visit is made.
@@ -45,8 +44,7 @@ module _ {budget n : ℕ} {edges masks path incumbent ws : List ℕ} {w : Walk} 
     kept-length = refl;
     counts = λ busy. omega (arith, counts busy);
     lent = lent;
-    state = λ P minimum setting ready. refl;
-    ready = λ P minimum setting ready. ready;
+    arrives = λ P minimum setting ready. record { state-is = refl; ready = ready };
   }
 
   module _ {path′ incumbent′ ws′ : List ℕ} {w′ : Walk} {made : ℕ}
@@ -59,8 +57,8 @@ module _ {budget n : ℕ} {edges masks path incumbent ws : List ℕ} {w : Walk} 
     ran-more {w″ = w″} h busy same visited =
         let l = ran .lent in
         let next : w″ .steps ≡ w′ .steps + 1 =
-        ap (λ (s : State). s .steps) (visited .0 (l .problem) (l .minimum) (l .setting) (l .ready))
-        ∙ visit-steps (rulesOf (l .problem)) (l .minimum) (walkState n w′ path′ incumbent′) busy in
+        ap (λ (s : State). s .steps) (visited (l .problem) (l .minimum) (l .setting) (l .ready) .state-is)
+        ∙ visit-steps (searchOf (l .problem)) (l .minimum) (walkState n w′ path′ incumbent′) busy in
         record {
           within = omega arith;
           kept-length = same ∙ ran .kept-length;
@@ -69,26 +67,29 @@ module _ {budget n : ℕ} {edges masks path incumbent ws : List ℕ} {w : Walk} 
             problem = l .problem;
             minimum = l .minimum;
             setting = l .setting;
-            ready = visited .1 (l .problem) (l .minimum) (l .setting) (l .ready);
+            ready = visited (l .problem) (l .minimum) (l .setting) (l .ready) .ready;
           };
-          state = λ P minimum setting ready.
-              rw add-one
-              (visited .0 P minimum setting (ran .ready P minimum setting ready)
-              ∙ ap (visit (rulesOf P) minimum) (ran .state P minimum setting ready));
-          ready = λ P minimum setting ready. visited .1 P minimum setting (ran .ready P minimum setting ready);
+          arrives = λ P minimum setting ready.
+              let here = ran .arrives P minimum setting ready in
+              let there = visited P minimum setting (here .ready) in
+              record { state-is = rw add-one (there .state-is ∙ ap (visit (searchOf P) minimum) (here .state-is)); ready = there .ready };
         }
 
     -- A finished walk has made all visits of the budget.
     pub ran-finished : w′ .place .finished ≡ true → (P : Problem) (minimum : ℕ) → Setting P n edges masks → Ready P minimum w path incumbent ws
-        → walkState n w′ path′ incumbent′ ≡ visits (rulesOf P) minimum budget (walkState n w path incumbent)
+        → Arrives P minimum n (visits (searchOf P) minimum budget (walkState n w path incumbent)) w′ path′ incumbent′ ws′
     unfolding walkState
     ran-finished end P minimum setting ready =
-        let here = ran .state P minimum setting ready in
-        here ∙ sym (visits-finished (rulesOf P) minimum _ made budget (ap (λ (s : State). s .finished) (sym here) ∙ end) (ran .within))
+        let here = ran .arrives P minimum setting ready in
+        let is = here .state-is in
+        record {
+          state-is = is ∙ sym (visits-finished (searchOf P) minimum _ made budget (ap (λ (s : State). s .finished) (sym is) ∙ end) (ran .within));
+          ready = here .ready;
+        }
 
     -- At the end all visits are made.
     pub ran-all : budget ≤ made → (P : Problem) (minimum : ℕ) → Setting P n edges masks → Ready P minimum w path incumbent ws
-        → walkState n w′ path′ incumbent′ ≡ visits (rulesOf P) minimum budget (walkState n w path incumbent)
+        → Arrives P minimum n (visits (searchOf P) minimum budget (walkState n w path incumbent)) w′ path′ incumbent′ ws′
     ran-all h P minimum setting ready =
         let all : made ≡ budget = omega (arith, ran .within) in
-        rw all at (ran .state P minimum setting ready)
+        rw all at (ran .arrives P minimum setting ready)

@@ -9,23 +9,24 @@ use denote.Enum.Declared.{tagOf}
 use types.Run.{OneOf, miss}
 use lib.Dec.{leb}
 use lib.ListN.{length, getD, take}
-use lib.Seq.{length-take-le, getD-take, take-take}
-use Rattle.graph.specs.Below.{allBelow}
-use Rattle.mapping.specs.Problem.{Problem, SoundProblem}
+use lib.Seq.{getD-take, take-take}
+use Rattle.bounded.specs.Below.{allBelow}
+use Rattle.problem.specs.Problem.{Problem, SoundProblem}
 use Rattle.mapping.specs.Common.{unmapped}
 use Rattle.mapping.specs.Answers.{accepted, mappingOutcome}
 use Rattle.mapping.specs.declared.MappingAnswer.{MappingAnswer}
-use Rattle.mapping.proofs.MappingAnswer.{the-type}
 use Rattle.mapping.specs.Check.{listOutcome, rowsOutcome}
+use Rattle.mapping.proofs.MappingAnswer.{the-type}
 use Rattle.mapping.proofs.CheckPasses.{passes-common}
-use Rattle.mapping.proofs.ProblemPasses.{problem-passes}
+use Rattle.problem.proofs.ProblemPasses.{problem-passes}
 use Rattle.mapping.proofs.RowsAlone.{rows-alone}
 use Rattle.search_tree.specs.Rules.{rulesOf}
 use Rattle.search_tree.specs.Trees.{Reached}
 use Rattle.search_tree.proofs.ReachedCommon.{reached-common}
-use Rattle.search.specs.declared.Checkpoint.{Checkpoint}
-use Rattle.search.specs.Checkpoints.{isAccepted, pathFits, heldFits}
+use Rattle.search.specs.declared.checkpoint.Checkpoint.{Checkpoint}
+use Rattle.search.specs.Checkpoints.{isAccepted, pathFits, incumbentFits}
 use Rattle.search.proofs.FilledPath.{filledTo, take-filled}
+use Rattle.search.proofs.ReadyWalk.{decided-length}
 use Rattle.search.proofs.ShapeTest.{Tells, tells-eq, tells-itself, tells-one, tells-all, list-check, tells-common}
 
 -- two tests that say the same have the same answer
@@ -40,7 +41,7 @@ refused-answer (MappingAnswer.Common n) k = absurd (miss (1 ∷ 2 ∷ 3 ∷ 4 �
 refused-answer (MappingAnswer.Flawed f) k = refl
 refused-answer MappingAnswer.Length k = refl
 refused-answer (MappingAnswer.NoVertex r) k = refl
-refused-answer (MappingAnswer.SamePartner r e) k = refl
+refused-answer (MappingAnswer.SameImage r e) k = refl
 refused-answer (MappingAnswer.LabelsDiffer r) k = refl
 refused-answer (MappingAnswer.EdgesDiffer r e) k = refl
 
@@ -50,12 +51,10 @@ module _ (P : Problem) (sound : SoundProblem P) (c : Checkpoint) where
   rows-list l = sym (rows-alone P l (problem-passes P sound)) ∙ list-check P sound l
 
   module _ (long : length (c .path) ≡ 64) (deep : c .depth ≤ P .old .order) where
-    decided : length (take (c .depth) (c .path)) ≡ c .depth
-    decided = length-take-le (c .depth) (c .path) (omega (arith, sound .old-sound .order-max))
-
     -- the path fits exactly where candidates reach it
     tells-reached : Tells (allBelow (c .depth) (pathFits P c)) (Reached (rulesOf P) (take (c .depth) (c .path)))
     tells-reached =
+        let decided = decided-length sound (c .path) (c .depth) long deep in
         Iff·trans
         (tells-all (c .depth) (pathFits P c) (λ k. tells-one _ _ (tells-eq (getD (c .path) k 0) unmapped) (tells-itself _))) (
           λ each. record {
@@ -72,7 +71,7 @@ module _ (P : Problem) (sound : SoundProblem P) (c : Checkpoint) where
     path-checked : allBelow (c .depth) (pathFits P c) ≡ isAccepted (rowsOutcome P (take (P .old .order) (filledTo (c .path) (c .depth))))
     path-checked =
         same-answer _ _ tells-reached (tells-common P sound _)
-        (λ r. reached-common P sound _ .0 r .1, λ e. reached-common P sound _ .1 (omega (arith, decided), e))
+        (λ r. reached-common P sound _ .0 r .1, λ e. reached-common P sound _ .1 (omega (arith, decided-length sound (c .path) (c .depth) long deep), e))
         ∙ ap isAccepted (sym (rows-list _))
         ∙ ap (λ (l : List ℕ). isAccepted (rowsOutcome P l))
         (sym (take-filled (P .old .order) (c .path) (c .depth) long deep (sound .old-sound .order-max)))
@@ -83,11 +82,11 @@ module _ (P : Problem) (sound : SoundProblem P) (c : Checkpoint) where
     path-answer entries a filled checked = path-checked ∙ rw (checked, filled)
 
   -- Where the check accepts the list held with its size, what is held fits exactly if the minimum is at most that size.
-  pub held-accepted : (n : ℕ) → c .holds ≡ true → rowsOutcome P (take (P .old .order) (c .incumbent)) ≡ accepted n
-      → heldFits P c ≡ leb (c .minimum) n
-  held-accepted n holds e =
+  pub incumbent-accepted : (n : ℕ) → c .holds ≡ true → rowsOutcome P (take (P .old .order) (c .incumbent)) ≡ accepted n
+      → incumbentFits P c ≡ leb (c .minimum) n
+  incumbent-accepted n holds e =
       simp (holds, sym (rows-list _) ∙ e, ← passes-common P _ sound n (rows-alone P _ (problem-passes P sound) ∙ e) .1)
 
   -- Where the check refuses the list held, what is held does not fit.
-  pub held-refused : c .holds ≡ true → isAccepted (rowsOutcome P (take (P .old .order) (c .incumbent))) ≡ false → heldFits P c ≡ false
-  held-refused holds e = simp (holds, ap isAccepted (sym (rows-list _)) ∙ e)
+  pub incumbent-refused : c .holds ≡ true → isAccepted (rowsOutcome P (take (P .old .order) (c .incumbent))) ≡ false → incumbentFits P c ≡ false
+  incumbent-refused holds e = simp (holds, ap isAccepted (sym (rows-list _)) ∙ e)

@@ -4,10 +4,10 @@ use mathlib.Core.Bool.{Bool, true, false, not, _&&_, _||_, Bool·beq}
 use Prim.Native.Nat.{_≤_, _<_}
 use lib.Dec.{leb, eqb}
 use borrow.Author.Tests.{le-leb, lt-leb}
-use Rattle.graph.specs.Below.{allBelow}
-use Rattle.mapping.specs.Problem.{Problem}
-use Rattle.search.specs.declared.Checkpoint.{Checkpoint}
-use Rattle.search.specs.Checkpoints.{pathFits, heldFits, stepsFit, restFits, inShape}
+use Rattle.bounded.specs.Below.{allBelow}
+use Rattle.problem.specs.Problem.{Problem}
+use Rattle.search.specs.declared.checkpoint.Checkpoint.{Checkpoint}
+use Rattle.search.specs.Checkpoints.{pathFits, incumbentFits, stepsFit, restFits, inShape}
 
 -- three tests in a row may be joined first
 joined : (before f b s rest : Bool) → (before && f && b && s && rest) ≡ (before && (f && b && s) && rest)
@@ -17,11 +17,11 @@ joined false f b s rest = refl
 module _ (P : Problem) (c : Checkpoint) where
   -- the tests with those of the steps joined
   in-order : inShape P c
-      ≡ (leb (c .depth) (P .old .order) && allBelow (c .depth) (pathFits P c) && heldFits P c && stepsFit c && allBelow 64 (restFits (P .old .order) c))
+      ≡ (leb (c .depth) (P .old .order) && allBelow (c .depth) (pathFits P c) && incumbentFits P c && stepsFit c && allBelow 64 (restFits (P .old .order) c))
   unfolding inShape
   in-order =
       joined
-      (leb (c .depth) (P .old .order) && allBelow (c .depth) (pathFits P c) && heldFits P c)
+      (leb (c .depth) (P .old .order) && allBelow (c .depth) (pathFits P c) && incumbentFits P c)
       (not (c .finished) || eqb (c .depth) 0)
       (Bool·beq (eqb (c .steps) 0) (not (c .finished) && eqb (c .depth) 0))
       (not (eqb (c .steps) 0) || not (c .holds))
@@ -38,10 +38,10 @@ module _ (P : Problem) (c : Checkpoint) where
 
     module _ (path : allBelow (c .depth) (pathFits P c) ≡ true) where
       -- Nor is one whose held list does not fit.
-      pub held-fails : heldFits P c ≡ false → inShape P c ≡ false
-      held-fails e = in-order ∙ rw (le-leb (c .depth) (P .old .order) depth, path, e)
+      pub incumbent-fails : incumbentFits P c ≡ false → inShape P c ≡ false
+      incumbent-fails e = in-order ∙ rw (le-leb (c .depth) (P .old .order) depth, path, e)
 
-      module _ (held : heldFits P c ≡ true) where
+      module _ (held : incumbentFits P c ≡ true) where
         -- Nor is one whose steps do not fit.
         pub steps-fails : stepsFit c ≡ false → inShape P c ≡ false
         steps-fails e = in-order ∙ rw (le-leb (c .depth) (P .old .order) depth, path, held, e)

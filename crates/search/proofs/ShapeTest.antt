@@ -9,17 +9,17 @@ use native.Mathlib.Omega.{arith}
 use lib.Dec.{leb, ltb, eqb}
 use lib.ListN.{getD, take}
 use borrow.Author.Tests.{ltb-true, leb-true, eqb-true, eqb-false, lt-ltb, le-leb, eq-eqb}
-use Rattle.graph.specs.Below.{allBelow}
-use Rattle.graph.proofs.AllBelow.{allBelow-true, true-allBelow}
-use Rattle.mapping.specs.Problem.{Problem, SoundProblem}
+use Rattle.bounded.specs.Below.{allBelow}
+use Rattle.bounded.proofs.AllBelow.{allBelow-true, true-allBelow}
+use Rattle.problem.specs.Problem.{Problem, SoundProblem}
 use Rattle.mapping.specs.Common.{Common, unmapped, size}
 use Rattle.mapping.specs.Answers.{Outcome, accepted, refused, refusedRow, refusedRows}
 use Rattle.mapping.specs.Check.{listOutcome, checkOutcome}
-use Rattle.mapping.proofs.ProblemPasses.{problem-passes}
+use Rattle.problem.proofs.ProblemPasses.{problem-passes}
 use Rattle.mapping.proofs.CheckPasses.{common-passes, passes-common}
 use Rattle.search_tree.specs.Rules.{rulesOf}
 use Rattle.search_tree.specs.Node.{candidate}
-use Rattle.search.specs.declared.Checkpoint.{Checkpoint}
+use Rattle.search.specs.declared.checkpoint.Checkpoint.{Checkpoint}
 use Rattle.search.specs.Checkpoints.{InShape, isAccepted, pathFits, restFits, inShape}
 
 -- what a test says: it passes exactly when A holds
@@ -87,8 +87,8 @@ clauses-shape : (P : Problem) (c : Checkpoint) → Clauses P c → InShape P c
 clauses-shape P c x = record {
   depth-max = x .0 .0 .0 .0 .0 .0;
   entry = x .0 .0 .0 .0 .0 .1;
-  held-common = λ e. held e .0;
-  held-reaches = λ e. held e .1;
+  incumbent-common = λ e. held e .0;
+  incumbent-reaches = λ e. held e .1;
   finished-root = λ e. ⊎-elim (λ f. absurd (true≢false (sym e ∙ f))) (λ root. root) (x .0 .0 .0 .1);
   unmoved = λ e. let start = x .0 .0 .1 .0 e in (start .0, start .1, ⊎-elim (λ ne. absurd (eqb-false (c .steps) 0 ne e)) (λ f. f) (x .0 .1));
   moved = λ f root. x .0 .0 .1 .1 (f, root);
@@ -120,7 +120,7 @@ shape-clauses P c s = (
   where
     held : (b : Bool) → c .holds ≡ b
         → (c .holds ≡ false) ⊎ (Common P (take (P .old .order) (c .incumbent)) × (c .minimum ≤ size (take (P .old .order) (c .incumbent))))
-    held true e = inr (s .held-common e, s .held-reaches e)
+    held true e = inr (s .incumbent-common e, s .incumbent-reaches e)
     held false e = inl e
 
     finished : (b : Bool) → c .finished ≡ b → (c .finished ≡ false) ⊎ (c .depth ≡ 0)

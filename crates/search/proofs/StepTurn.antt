@@ -6,27 +6,25 @@ use mathlib.Core.Option.{Option, some}
 use Prim.Native.Nat.{ℕ, _+_, _≤_, _<_}
 use native.Mathlib.Omega.{arith}
 use lib.ListN.{length, take, drop, length-append, length-drop}
-use lib.Seq.{length-take-le, take-at}
+use lib.Seq.{take-at}
 use borrow.Author.Tests.{lt-ltb, le-ltb, le-leb, lt-leb}
-use Rattle.mapping.specs.Problem.{Problem, SoundProblem}
-use Rattle.search_tree.specs.Rules.{Rules, rulesOf}
+use Rattle.problem.specs.Problem.{Problem, SoundProblem}
+use Rattle.search_tree.specs.Rules.{rulesOf}
+use Rattle.search_tree.specs.Search.{Search, searchOf}
 use Rattle.search_tree.specs.Node.{upperBound, children, laterSiblings}
 use Rattle.search_tree.specs.Walk.{State, cutoff, goOn, visit, visitPath}
 use Rattle.search.specs.declared.walk.Place.{Place}
 use Rattle.search.specs.declared.walk.Walk.{Walk}
 use Rattle.search.specs.Words.{Words}
-use Rattle.search.specs.Walking.{Setting, AtNode, InBounds, Ready, heldIn, walkState, Descends, Retreats}
+use Rattle.search.specs.Walking.{Setting, AtNode, InBounds, Ready, walkIncumbent, walkState, Arrives, Bounded, Descends, Retreats}
+use Rattle.search.proofs.ReadyWalk.{own-order, ready-length, ready-cutoff}
 use Rattle.search.proofs.ReachedBounds.{reached-in-bounds}
 use Rattle.search.proofs.WordLevels.{words-shorter}
 
 module _ {P : Problem} {n : ℕ} {edges masks path ws : List ℕ} {depth pairs : ℕ} (setting : Setting P n edges masks)
     (node : AtNode P path depth pairs ws) where
-  -- a node's path is as long as the node is deep
-  node-depth : length (take depth path) ≡ depth
-  node-depth = length-take-le depth path (omega (arith, setting .sound .old-sound .order-max, node .depth-max, node .path-length))
-
   -- A node of a problem is in bounds.
-  pub node-in-bounds : InBounds n edges masks path depth pairs ws
+  pub node-in-bounds : InBounds edges masks path depth pairs ws
   node-in-bounds =
       rw (node .pairs-are) (reached-in-bounds path depth setting (node .reached) (node .depth-max) (node .path-length) (node .room))
 
@@ -43,12 +41,12 @@ module _ {P : Problem} {n : ℕ} {edges masks path ws : List ℕ} {depth pairs :
 
 -- A walk that is ready for a visit is in bounds.
 pub ready-in-bounds : {P : Problem} {minimum n : ℕ} {edges masks path incumbent ws : List ℕ} {w : Walk} → Setting P n edges masks
-    → Ready P minimum w path incumbent ws → InBounds n edges masks path (w .place .depth) (w .place .pairs) ws
+    → Ready P minimum w path incumbent ws → InBounds edges masks path (w .place .depth) (w .place .pairs) ws
 ready-in-bounds setting ready = node-in-bounds setting (ready .node)
 
 -- a place as a state
 abbrev placeState : ℕ → Option (List ℕ) → Place → List ℕ → State
-placeState steps held r path = record { steps = steps; path = take (r .depth) path; finished = r .finished; held = held }
+placeState steps held r path = record { steps = steps; path = take (r .depth) path; finished = r .finished; incumbent = held }
 
 -- where the code retreats to, the walk goes on
 retreats-state : {P : Problem} {path path′ ws : List ℕ} {depth : ℕ} {r : Place} (steps : ℕ) (held : Option (List ℕ))
@@ -59,44 +57,37 @@ retreats-state {P} {path} {path′} {ws} {depth} {r} steps held back = go (r .fi
     go true e = rw (back .none-left e .0, back .none-left e .1, e)
     go false e = rw (back .sibling e .1, e)
 
-module _ (R : Rules) (minimum steps : ℕ) (path : List ℕ) (held : Option (List ℕ)) where
+module _ (S : Search) (minimum steps : ℕ) (path : List ℕ) (held : Option (List ℕ)) where
   -- the three cases of a visit
-  visit-low : upperBound R path < cutoff minimum held → visitPath R minimum steps path held ≡ goOn steps held (laterSiblings R path (length path))
+  visit-low : upperBound (S .rules) path < cutoff minimum held
+      → visitPath S minimum steps path held ≡ goOn steps held (laterSiblings (S .rules) path (length path))
   unfolding visitPath
-  visit-low low = rw (lt-ltb (upperBound R path) (cutoff minimum held) low)
+  visit-low low = rw (lt-ltb (upperBound (S .rules) path) (cutoff minimum held) low)
 
-  visit-last : cutoff minimum held ≤ upperBound R path → R .rows ≤ length path
-      → visitPath R minimum steps path held ≡ goOn steps (cond (R .admits path) (some path) held) (laterSiblings R path (length path))
+  visit-last : cutoff minimum held ≤ upperBound (S .rules) path → S .rules .rows ≤ length path
+      → visitPath S minimum steps path held ≡ goOn steps (cond (S .admits path) (some path) held) (laterSiblings (S .rules) path (length path))
   unfolding visitPath
-  visit-last high last = rw (le-ltb (upperBound R path) (cutoff minimum held) high, le-leb (R .rows) (length path) last)
+  visit-last high last = rw (le-ltb (upperBound (S .rules) path) (cutoff minimum held) high, le-leb (S .rules .rows) (length path) last)
 
-  visit-inner : cutoff minimum held ≤ upperBound R path → length path < R .rows
-      → visitPath R minimum steps path held ≡ goOn steps held (children R path)
+  visit-inner : cutoff minimum held ≤ upperBound (S .rules) path → length path < S .rules .rows
+      → visitPath S minimum steps path held ≡ goOn steps held (children (S .rules) path)
   unfolding visitPath
-  visit-inner high inner = rw (le-ltb (upperBound R path) (cutoff minimum held) high, lt-leb (R .rows) (length path) inner)
+  visit-inner high inner = rw (le-ltb (upperBound (S .rules) path) (cutoff minimum held) high, lt-leb (S .rules .rows) (length path) inner)
 
 -- an unfinished walk's visit is of its node
 visit-node : (P : Problem) (minimum n : ℕ) (w : Walk) (path incumbent : List ℕ) → w .place .finished ≡ false
-    → visit (rulesOf P) minimum (walkState n w path incumbent)
-    ≡ visitPath (rulesOf P) minimum (w .steps + 1) (take (w .place .depth) path) (heldIn n w incumbent)
+    → visit (searchOf P) minimum (walkState n w path incumbent)
+    ≡ visitPath (searchOf P) minimum (w .steps + 1) (take (w .place .depth) path) (walkIncumbent n w incumbent)
 unfolding visit walkState
 visit-node P minimum n w path incumbent busy = rw busy
 
 -- the code made one visit, and is ready for another
-record Visited (P : Problem) (minimum n : ℕ) (w : Walk) (path incumbent : List ℕ) (w′ : Walk) (path′ incumbent′ ws′ : List ℕ) : Type 0 where
-  state : walkState n w′ path′ incumbent′ ≡ visit (rulesOf P) minimum (walkState n w path incumbent)
-  ready : Ready P minimum w′ path′ incumbent′ ws′
+abbrev pub Visited : Problem → ℕ → ℕ → Walk → List ℕ → List ℕ → Walk → List ℕ → List ℕ → List ℕ → Type 0
+Visited P minimum n w path incumbent w′ path′ incumbent′ ws′ =
+    Arrives P minimum n (visit (searchOf P) minimum (walkState n w path incumbent)) w′ path′ incumbent′ ws′
 
 module _ {P : Problem} {minimum n : ℕ} {edges masks path incumbent ws : List ℕ} {w : Walk} (setting : Setting P n edges masks)
     (ready : Ready P minimum w path incumbent ws) (busy : w .place .finished ≡ false) where
-  -- the node is as long as it is deep
-  depth-is : length (take (w .place .depth) path) ≡ w .place .depth
-  depth-is = node-depth setting (ready .node)
-
-  -- what the node must reach
-  cutoff-known : cutoff minimum (heldIn n w incumbent) ≡ w .cutoff
-  cutoff-known = rw (← setting .order-is) (sym (ready .cutoff-is))
-
   -- a node whose upper bound is below the cutoff is left
   step-left : {path′ ws′ : List ℕ} {r : Place} {bound : ℕ} → bound ≡ upperBound (rulesOf P) (take (w .place .depth) path) → bound < w .cutoff
       → Retreats P path (w .place .depth) ws′ r path′
@@ -104,10 +95,10 @@ module _ {P : Problem} {minimum n : ℕ} {edges masks path incumbent ws : List �
   unfolding walkState
   step-left {path′} {ws′} {r} {bound} e low back =
       let p = take (w .place .depth) path in
-      let held = heldIn n w incumbent in
-      let left = visit-low (rulesOf P) minimum (w .steps + 1) p held (omega (arith, cutoff-known)) in
+      let held = walkIncumbent n w incumbent in
+      let left = visit-low (searchOf P) minimum (w .steps + 1) p held (omega (arith, ready-cutoff setting ready)) in
       record {
-        state = retreats-state (w .steps + 1) held back ∙ sym (visit-node P minimum n w path incumbent busy ∙ (rw depth-is at left));
+        state-is = retreats-state (w .steps + 1) held back ∙ sym (visit-node P minimum n w path incumbent busy ∙ (rw (ready-length setting ready) at left));
         ready = record {
           node = back .node;
           incumbent-length = ready .incumbent-length;
@@ -124,15 +115,16 @@ module _ {P : Problem} {minimum n : ℕ} {edges masks path incumbent ws : List �
   unfolding walkState
   step-held {path′} {incumbent′} {ws′} {r} {bound} e high last kept back =
       let p = take (w .place .depth) path in
-      let held = heldIn n w incumbent in
-      let left = visit-last (rulesOf P) minimum (w .steps + 1) p held (omega (arith, cutoff-known)) (omega (arith, depth-is, setting .order-is)) in
+      let held = walkIncumbent n w incumbent in
+      let left = visit-last (searchOf P) minimum (w .steps + 1) p held (omega (arith, ready-cutoff setting ready))
+      (omega (arith, ready-length setting ready, setting .order-is)) in
       let max = setting .sound .old-sound .order-max in
-      let whole : length (take n path) ≡ n = rw last at depth-is in
+      let whole : length (take n path) ≡ n = rw last at (ready-length setting ready) in
       let now-held : take n incumbent′ ≡ p = rw (kept, last) (take-at (take n path) (drop n incumbent) n whole) in
       record {
-        state =
+        state-is =
             ap (λ (h : List ℕ). placeState (w .steps + 1) (some h) r path′) now-held ∙ retreats-state (w .steps + 1) (some p) back
-            ∙ sym (visit-node P minimum n w path incumbent busy ∙ (rw depth-is at left));
+            ∙ sym (visit-node P minimum n w path incumbent busy ∙ (rw (ready-length setting ready) at left));
         ready = record {
           node = back .node;
           incumbent-length = ap length kept ∙ (simp (length-append, length-drop, whole) (omega (arith, ready .incumbent-length, setting .order-is)));
@@ -148,11 +140,12 @@ module _ {P : Problem} {minimum n : ℕ} {edges masks path incumbent ws : List �
   unfolding walkState
   step-down {path′} {ws′} {r} {bound} e high inner down =
       let p = take (w .place .depth) path in
-      let held = heldIn n w incumbent in
-      let next = visit-inner (rulesOf P) minimum (w .steps + 1) p held (omega (arith, cutoff-known)) (omega (arith, depth-is, setting .order-is)) in
+      let held = walkIncumbent n w incumbent in
+      let next = visit-inner (searchOf P) minimum (w .steps + 1) p held (omega (arith, ready-cutoff setting ready))
+      (omega (arith, ready-length setting ready, setting .order-is)) in
       let first : placeState (w .steps + 1) held r path′ ≡ goOn (w .steps + 1) held (children (rulesOf P) p) = rw (down .child .1, down .goes-on) in
       record {
-        state = first ∙ sym (visit-node P minimum n w path incumbent busy ∙ next);
+        state-is = first ∙ sym (visit-node P minimum n w path incumbent busy ∙ next);
         ready = record {
           node = down .node;
           incumbent-length = ready .incumbent-length;
@@ -164,27 +157,16 @@ module _ {P : Problem} {minimum n : ℕ} {edges masks path incumbent ws : List �
 -- Whatever the problem: the code made one visit, and is ready for another.
 abbrev pub Visits : ℕ → List ℕ → List ℕ → Walk → List ℕ → List ℕ → List ℕ → Walk → List ℕ → List ℕ → List ℕ → Type 0
 Visits n edges masks w path incumbent ws w′ path′ incumbent′ ws′ =
-    ((P : Problem) (minimum : ℕ) → Setting P n edges masks → Ready P minimum w path incumbent ws
-    → walkState n w′ path′ incumbent′ ≡ visit (rulesOf P) minimum (walkState n w path incumbent))
-    × ((P : Problem) (minimum : ℕ) → Setting P n edges masks → Ready P minimum w path incumbent ws → Ready P minimum w′ path′ incumbent′ ws′)
-
--- the two facts are shown together
-visits-by : {n : ℕ} {edges masks path incumbent ws path′ incumbent′ ws′ : List ℕ} {w w′ : Walk}
-    → ((P : Problem) (minimum : ℕ) → Setting P n edges masks → Ready P minimum w path incumbent ws
-    → Visited P minimum n w path incumbent w′ path′ incumbent′ ws′)
-    → Visits n edges masks w path incumbent ws w′ path′ incumbent′ ws′
-visits-by visited =
-    (λ P minimum setting ready. visited P minimum setting ready .state, λ P minimum setting ready. visited P minimum setting ready .ready)
+    (P : Problem) (minimum : ℕ) → Setting P n edges masks → Ready P minimum w path incumbent ws
+    → Visited P minimum n w path incumbent w′ path′ incumbent′ ws′
 
 module _ {n : ℕ} {edges masks path ws ws′ : List ℕ} {bound : ℕ} (w : Walk) (busy : w .place .finished ≡ false) (same : length ws′ ≡ length ws)
-    (bounded : (P : Problem) → Setting P n edges masks → AtNode P path (w .place .depth) (w .place .pairs) ws
-    → bound ≡ upperBound (rulesOf P) (take (w .place .depth) path))
-    (words : (P : Problem) → Setting P n edges masks → AtNode P path (w .place .depth) (w .place .pairs) ws
-    → Words P path (w .place .depth) ws′) where
+    (bounded : (P : Problem) → Setting P (P .old .order) edges masks → AtNode P path (w .place .depth) (w .place .pairs) ws
+    → Bounded P path (w .place .depth) ws′ bound) where
   -- the node, beside its own words
   beside : {P : Problem} → Setting P n edges masks → AtNode P path (w .place .depth) (w .place .pairs) ws
       → AtNode P path (w .place .depth) (w .place .pairs) ws′
-  beside {P} setting node = node-kept setting node same (words P setting node)
+  beside {P} setting node = node-kept setting node same (bounded P (own-order setting) node .words)
 
   -- Whatever the problem, a node below the cutoff is left.
   pub visits-left : {path′ incumbent : List ℕ} {r : Place} → bound < w .cutoff
@@ -193,8 +175,8 @@ module _ {n : ℕ} {edges masks path ws ws′ : List ℕ} {bound : ℕ} (w : Wal
       → Visits n edges masks w path incumbent ws (record { steps = w .steps + 1; place = r; cutoff = w .cutoff; holds = w .holds })
       path′ incumbent ws′
   visits-left low back =
-      visits-by (λ P minimum setting ready. step-left setting ready busy (bounded P setting (ready .node)) low
-      (back P (setting .sound) (setting .order-is) (beside setting (ready .node))))
+      λ P minimum setting ready. step-left setting ready busy (bounded P (own-order setting) (ready .node) .bound-is) low
+      (back P (setting .sound) (setting .order-is) (beside setting (ready .node)))
 
   -- Whatever the problem, a last node that reaches the cutoff is held, and left.
   pub visits-held : {path′ incumbent incumbent′ : List ℕ} {r : Place} → w .cutoff ≤ bound → w .place .depth ≡ n
@@ -204,8 +186,8 @@ module _ {n : ℕ} {edges masks path ws ws′ : List ℕ} {bound : ℕ} (w : Wal
       → Visits n edges masks w path incumbent ws (record { steps = w .steps + 1; place = r; cutoff = w .place .pairs + 1; holds = true })
       path′ incumbent′ ws′
   visits-held high last kept back =
-      visits-by (λ P minimum setting ready. step-held setting ready busy (bounded P setting (ready .node)) high last kept
-      (back P (setting .sound) (setting .order-is) (beside setting (ready .node))))
+      λ P minimum setting ready. step-held setting ready busy (bounded P (own-order setting) (ready .node) .bound-is) high last kept
+      (back P (setting .sound) (setting .order-is) (beside setting (ready .node)))
 
   -- Whatever the problem, after another node that reaches the cutoff comes its first child.
   pub visits-down : {path′ incumbent : List ℕ} {r : Place} → w .cutoff ≤ bound → w .place .depth < n
@@ -214,5 +196,5 @@ module _ {n : ℕ} {edges masks path ws ws′ : List ℕ} {bound : ℕ} (w : Wal
       → Visits n edges masks w path incumbent ws (record { steps = w .steps + 1; place = r; cutoff = w .cutoff; holds = w .holds })
       path′ incumbent ws′
   visits-down high inner down =
-      visits-by (λ P minimum setting ready. step-down setting ready busy (bounded P setting (ready .node)) high inner
-      (down P (setting .sound) (setting .order-is) (beside setting (ready .node)) (words P setting (ready .node))))
+      λ P minimum setting ready. step-down setting ready busy (bounded P (own-order setting) (ready .node) .bound-is) high inner
+      (down P (setting .sound) (setting .order-is) (beside setting (ready .node)) (bounded P (own-order setting) (ready .node) .words))

@@ -6,7 +6,7 @@ use native.Mathlib.Numerals.{add-one}
 use native.Mathlib.Omega.{arith}
 use lib.ListN.{length, take, set, length-set}
 use lib.Seq.{length-take-le, take-set-le, take-suc-set}
-use Rattle.mapping.specs.Problem.{Problem}
+use Rattle.problem.specs.Problem.{Problem}
 use Rattle.mapping.specs.Common.{size}
 use Rattle.mapping.proofs.Size.{counted}
 use Rattle.search_tree.specs.Rules.{rulesOf}

@@ -8,20 +8,21 @@ use native.Mathlib.Nat.{add-zero, zero-add, add-assoc}
 use native.Mathlib.Decide.{decLe}
 use native.Mathlib.Omega.{arith}
 use lib.ListN.{length, drop, replicate}
-use Rattle.graph.specs.Answers.{Answer, accepted, refused}
-use Rattle.mapping.specs.Problem.{Problem, SoundProblem}
+use Rattle.answers.specs.Answer.{Answer, accepted, refused, isRefused}
+use Rattle.problem.specs.Problem.{Problem, SoundProblem}
 use Rattle.mapping.specs.Common.{Common}
 use Rattle.search_tree.specs.Rules.{rulesOf}
+use Rattle.search_tree.specs.Search.{searchOf}
 use Rattle.search_tree.specs.Walk.{State, after, IsTotal}
 use Rattle.search_tree.specs.Ceiling.{ceiling}
 use Rattle.search_tree.specs.Best.{Best}
 use Rattle.search_tree.proofs.Steps.{finished-from, unchanged-after, steps-total, total-unique}
-use Rattle.search_tree.proofs.WalkTheorems.{held-common, common-below, common-best, walk-ends}
-use Rattle.search.specs.declared.Checkpoint.{Checkpoint}
+use Rattle.search_tree.proofs.WalkTheorems.{incumbent-common, common-below, common-best, walk-ends}
+use Rattle.search.specs.declared.checkpoint.Checkpoint.{Checkpoint}
 use Rattle.search.specs.Checkpoints.{freshCheckpoint, checkpointOf, stateOf}
 use Rattle.search.specs.Call.{Called, wordsNeeded}
-use Rattle.search.specs.Calls.{Call, called, leaves, isRefused, counted, summed, CallIn, upTo, reached, spent, resultOf}
-use Rattle.search.specs.ThirdProperty.{Judged, Unchanged, heldIn, ThirdProperty}
+use Rattle.search.specs.Calls.{Call, called, leaves, counted, summed, CallIn, upTo, reached, spent, resultOf}
+use Rattle.search.specs.ThirdProperty.{Judged, Unchanged, incumbentIn, ThirdProperty}
 use Rattle.search.proofs.WalkShape.{walk-state}
 use Rattle.search.proofs.WalkCall.{walkAt, Course, few, full, done, walk-course}
 use Rattle.search.proofs.CallLists.{summed-snoc}
@@ -73,7 +74,7 @@ module _ (P : Problem) (sound : SoundProblem P) (minimum : ℕ) where
     refused-unchanged (done l fits e) b = absurd (false≢true (rw e at b))
 
     accepted-ceiling : Went → isRefused (r .answer) ≡ false
-        → r .answer ≡ accepted (ceiling (rulesOf P) minimum (after (rulesOf P) minimum (k + call .budget)))
+        → r .answer ≡ accepted (ceiling (rulesOf P) minimum (after (searchOf P) minimum (k + call .budget)))
     accepted-ceiling (few l e) b = absurd (true≢false (rw e at b))
     accepted-ceiling (full l f m e) b = absurd (true≢false (rw e at b))
     accepted-ceiling (done l fits e) b = rw e
@@ -99,9 +100,9 @@ module _ (P : Problem) (sound : SoundProblem P) (minimum : ℕ) where
   reached-walk calls = leaves-walk calls 0 ∙ ap (walkAt P minimum) (zero-add (spent P minimum calls))
 
   -- what the walk's checkpoint holds is what the walk holds
-  walk-held : (k : ℕ) → heldIn P (walkAt P minimum k) ≡ after (rulesOf P) minimum k .held
+  walk-incumbent : (k : ℕ) → incumbentIn P (walkAt P minimum k) ≡ after (searchOf P) minimum k .incumbent
   unfolding stateOf
-  walk-held k = ap (λ (s : State). s .held) (walk-state P sound minimum k)
+  walk-incumbent k = ap (λ (s : State). s .incumbent) (walk-state P sound minimum k)
 
   -- how a call of a list goes
   course : {calls : List Call} (x : CallIn calls)
@@ -117,33 +118,33 @@ module _ (P : Problem) (sound : SoundProblem P) (minimum : ℕ) where
       → spent P minimum (upTo x) ≡ spent P minimum (x .before) + x .call .budget
   counted-budget x b = summed-snoc P (freshCheckpoint minimum) (x .before) (x .call) ∙ rw b
 
-  module _ {t : ℕ} (total : IsTotal (rulesOf P) minimum t) where
+  module _ {t : ℕ} (total : IsTotal (searchOf P) minimum t) where
     -- from the total on nothing changes, so that visits above it need not be counted
-    capped : (k : ℕ) → after (rulesOf P) minimum (min t k) ≡ after (rulesOf P) minimum k
+    capped : (k : ℕ) → after (searchOf P) minimum (min t k) ≡ after (searchOf P) minimum k
     capped k = go (decLe k t)
       where
-        go : Dec (k ≤ t) → after (rulesOf P) minimum (min t k) ≡ after (rulesOf P) minimum k
+        go : Dec (k ≤ t) → after (searchOf P) minimum (min t k) ≡ after (searchOf P) minimum k
         go (yes h) = let e : min t k ≡ k = omega arith in rw e
         go (no h) =
             let e : min t k ≡ t = omega arith in
-            rw e (sym (unchanged-after (rulesOf P) minimum total k (omega arith)))
+            rw e (sym (unchanged-after (searchOf P) minimum total k (omega arith)))
 
     walk-steps : (k : ℕ) → walkAt P minimum k .steps ≡ min t k
     unfolding checkpointOf
-    walk-steps k = omega (arith, steps-total (rulesOf P) minimum total k)
+    walk-steps k = omega (arith, steps-total (searchOf P) minimum total k)
 
     walk-finished : (k : ℕ) → (walkAt P minimum k .finished ≡ true) ↔ (walkAt P minimum k .steps ≡ t)
     unfolding checkpointOf
     walk-finished k = (
-      λ e. let late : t ≤ k = finished-from (rulesOf P) minimum total k .0 e in omega (arith, walk-steps k),
-      λ e. finished-from (rulesOf P) minimum total k .1 (omega (arith, walk-steps k)),
+      λ e. let late : t ≤ k = finished-from (searchOf P) minimum total k .0 e in omega (arith, walk-steps k),
+      λ e. finished-from (searchOf P) minimum total k .1 (omega (arith, walk-steps k)),
     )
 
-    walk-best : (k : ℕ) → walkAt P minimum k .finished ≡ true → Best (Common P) minimum (heldIn P (walkAt P minimum k))
+    walk-best : (k : ℕ) → walkAt P minimum k .finished ≡ true → Best (Common P) minimum (incumbentIn P (walkAt P minimum k))
     unfolding checkpointOf
     walk-best k e =
-        let late : t ≤ k = finished-from (rulesOf P) minimum total k .0 e in
-        rw (walk-held k, unchanged-after (rulesOf P) minimum total k late) (common-best P sound minimum total)
+        let late : t ≤ k = finished-from (searchOf P) minimum total k .0 e in
+        rw (walk-incumbent k, unchanged-after (searchOf P) minimum total k late) (common-best P sound minimum total)
 
 no-14 : {answer : Answer} → (answer ≡ refused 15) ⊎ ((answer ≡ refused 16) ⊎ ((n : ℕ) × (answer ≡ accepted n))) → answer ≡ refused 14 → ⊥
 no-14 (inl e) a = let z : _≡_ {A = ℕ} 14 15 = cc in omega arith
@@ -151,7 +152,7 @@ no-14 (inr (inl e)) a = let z : _≡_ {A = ℕ} 14 16 = cc in omega arith
 no-14 (inr (inr (n, e))) a = true≢false (cc)
 
 -- The third property holds of two sound graphs, every minimum, the walk's total and every list of calls, with any budgets and workspaces.
-pub third-property : (P : Problem) → SoundProblem P → (minimum t : ℕ) → IsTotal (rulesOf P) minimum t
+pub third-property : (P : Problem) → SoundProblem P → (minimum t : ℕ) → IsTotal (searchOf P) minimum t
     → (calls : List Call) → ThirdProperty P minimum t calls
 third-property P sound minimum t total calls = record {
   judged = λ x. rw (capped P sound minimum total (spent P minimum (x .before))) (judged x);
@@ -163,12 +164,12 @@ third-property P sound minimum t total calls = record {
   counted = counted-budget P sound minimum;
   steps = rw (reached-walk P sound minimum calls) (walk-steps P sound minimum total sum);
   checkpoint = reached-walk P sound minimum calls ∙ ap (checkpointOf minimum) (sym (capped P sound minimum total sum));
-  held = λ h e. held-common P sound minimum sum h
-      (sym (walk-held P sound minimum sum) ∙ sym (ap (heldIn P) (reached-walk P sound minimum calls)) ∙ e);
+  incumbent = λ h e. incumbent-common P sound minimum sum h
+      (sym (walk-incumbent P sound minimum sum) ∙ sym (ap (incumbentIn P) (reached-walk P sound minimum calls)) ∙ e);
   ceilings = λ x b. rw (capped P sound minimum total (spent P minimum (upTo x)), counted-budget P sound minimum x b) (top-of x b);
   above = λ x top a l good.
       let same = top-of x (ap isRefused a) in
-      let e : top ≡ ceiling (rulesOf P) minimum (after (rulesOf P) minimum (spent P minimum (x .before) + x .call .budget)) = cc in
+      let e : top ≡ ceiling (rulesOf P) minimum (after (searchOf P) minimum (spent P minimum (x .before) + x .call .budget)) = cc in
       rw e (common-below P sound minimum (spent P minimum (x .before) + x .call .budget) l good);
   finished = rw (reached-walk P sound minimum calls) (walk-finished P sound minimum total sum);
   best = rw (reached-walk P sound minimum calls) (walk-best P sound minimum total sum);
@@ -183,17 +184,17 @@ third-property P sound minimum t total calls = record {
 
     top-of : (x : CallIn calls) → isRefused (resultOf P minimum x .answer) ≡ false
         → resultOf P minimum x .answer
-        ≡ accepted (ceiling (rulesOf P) minimum (after (rulesOf P) minimum (spent P minimum (x .before) + x .call .budget)))
+        ≡ accepted (ceiling (rulesOf P) minimum (after (searchOf P) minimum (spent P minimum (x .before) + x .call .budget)))
     top-of x b = accepted-ceiling P sound minimum _ _ _ (course P sound minimum x) b
 
 -- The walk has one total, and with it the third property holds of every list of calls.
 pub third-property-total : (P : Problem) → SoundProblem P → (minimum : ℕ)
-    → (t : ℕ) × IsTotal (rulesOf P) minimum t × ((u : ℕ) → IsTotal (rulesOf P) minimum u → u ≡ t)
+    → (t : ℕ) × IsTotal (searchOf P) minimum t × ((u : ℕ) → IsTotal (searchOf P) minimum u → u ≡ t)
     × ((calls : List Call) → ThirdProperty P minimum t calls)
 third-property-total P sound minimum =
     let end = walk-ends P sound minimum in (
       end .0,
       end .1,
-      λ u total. total-unique (rulesOf P) minimum total (end .1),
+      λ u total. total-unique (searchOf P) minimum total (end .1),
       third-property P sound minimum (end .0) (end .1),
     )

@@ -7,7 +7,7 @@ use Prim.Native.Nat.{ℕ, _≤_, _<_, zero-le}
 use lib.Dec.{ltb, eqb}
 use lib.ListN.{getD}
 use borrow.Author.Tests.{lt-ltb, le-ltb, eq-eqb, ne-eqb}
-use Rattle.search.specs.declared.Checkpoint.{Checkpoint}
+use Rattle.search.specs.declared.checkpoint.Checkpoint.{Checkpoint}
 use Rattle.search.specs.Checkpoints.{restFits}
 
 -- a checkpoint with the fields that the test reads; the others stand for any

@@ -9,19 +9,21 @@ use native.Mathlib.Omega.{arith}
 use lib.Dec.{leb, ltb}
 use lib.ListN.{length}
 use borrow.Author.Tests.{leb-true, leb-false, ltb-true, ltb-false}
-use Rattle.graph.specs.Answers.{Answer, passed}
-use Rattle.mapping.specs.Problem.{Problem, SoundProblem}
-use Rattle.mapping.proofs.ProblemPasses.{problem-passes}
+use Rattle.answers.specs.Answer.{Answer, passed}
+use Rattle.problem.specs.Problem.{Problem, SoundProblem}
 use Rattle.search_tree.specs.Rules.{rulesOf}
+use Rattle.search_tree.specs.Search.{searchOf}
 use Rattle.search_tree.specs.Walk.{after}
-use Rattle.search.specs.declared.Checkpoint.{Checkpoint}
+use Rattle.search.specs.declared.checkpoint.Checkpoint.{Checkpoint}
 use Rattle.search.specs.Checkpoints.{checkpointOf, freshCheckpoint}
-use Rattle.search.specs.Call.{Called, visits, wordsNeeded, refuse, arrive, advance, onSound, searchCall}
+use Rattle.search.specs.Call.{Called, visits, wordsNeeded, refuse, arrive, advance, onPassed, searchCall}
+use Rattle.search.proofs.CheckpointPasses.{shape-passes}
+use Rattle.search.proofs.ShapeTest.{shape-test}
 use Rattle.search.proofs.WalkShape.{visits-after, walk-in-shape, walk-state}
 
 -- the walk's checkpoint after k visits
 abbrev pub walkAt : Problem → ℕ → ℕ → Checkpoint
-walkAt P minimum k = checkpointOf minimum (after (rulesOf P) minimum k)
+walkAt P minimum k = checkpointOf minimum (after (searchOf P) minimum k)
 
 -- the three ways that a call on the walk's checkpoint after k visits can go
 pub data Course (P : Problem) (minimum k budget : ℕ) (workspace : List ℕ) (r : Called) : Type 0 where
@@ -30,28 +32,27 @@ pub data Course (P : Problem) (minimum k budget : ℕ) (workspace : List ℕ) (r
       → r ≡ refuse (walkAt P minimum k) workspace 16 → Course P minimum k budget workspace r
   done : wordsNeeded ≤ length workspace
       → (walkAt P minimum k .finished ≡ true) ⊎ (walkAt P minimum k .steps + budget < 2 ^ 64)
-      → r ≡ arrive minimum (rulesOf P) workspace (after (rulesOf P) minimum (k + budget)) → Course P minimum k budget workspace r
+      → r ≡ arrive minimum (rulesOf P) workspace (after (searchOf P) minimum (k + budget)) → Course P minimum k budget workspace r
 
 -- what is left of a call on sound graphs and a checkpoint in shape
-past-shape : (a : Answer) (shape : Bool) (rest off : Called) (refusal : ℕ → Called) → a ≡ passed → shape ≡ true
-    → onSound a (cond shape rest off) refusal ≡ rest
-past-shape a shape rest off refusal p q = rw (p, q)
+past-check : (a : Answer) (rest : Called) (refusal : ℕ → Called) → a ≡ passed → onPassed a rest refusal ≡ rest
+past-check a rest refusal p = rw p
 
 module _ (P : Problem) (sound : SoundProblem P) (minimum k budget : ℕ) (workspace : List ℕ) where
   -- From the walk's checkpoint the visits go on with the walk.
   pub walk-advance :
-      advance P (walkAt P minimum k) budget workspace ≡ arrive minimum (rulesOf P) workspace (after (rulesOf P) minimum (k + budget))
+      advance P (walkAt P minimum k) budget workspace ≡ arrive minimum (rulesOf P) workspace (after (searchOf P) minimum (k + budget))
   unfolding advance checkpointOf
   walk-advance =
       ap (arrive minimum (rulesOf P) workspace)
-      (ap (visits (rulesOf P) minimum budget) (walk-state P sound minimum k) ∙ visits-after (rulesOf P) minimum budget k)
+      (ap (visits (searchOf P) minimum budget) (walk-state P sound minimum k) ∙ visits-after (searchOf P) minimum budget k)
 
   -- A call on the walk's checkpoint goes one of the three ways, by the table's conditions in their order.
   pub walk-course : Course P minimum k budget workspace (searchCall P (walkAt P minimum k) budget workspace)
   unfolding searchCall
   walk-course =
       go (leb wordsNeeded (length workspace)) (walkAt P minimum k .finished) (ltb (walkAt P minimum k .steps + budget) (2 ^ 64)) refl refl refl _
-      (past-shape _ _ _ _ _ (problem-passes P sound) (walk-in-shape P sound minimum k))
+      (past-check _ _ _ (shape-passes P c sound (shape-test P sound c .0 (walk-in-shape P sound minimum k))))
     where
       c : Checkpoint
       c = walkAt P minimum k
@@ -67,11 +68,11 @@ module _ (P : Problem) (sound : SoundProblem P) (minimum k budget : ℕ) (worksp
 
 -- A call on a fresh checkpoint with enough words makes as many visits as its budget says.
 pub fresh-call : (P : Problem) → SoundProblem P → (minimum budget : ℕ) (workspace : List ℕ) → wordsNeeded ≤ length workspace → budget < 2 ^ 64
-    → searchCall P (freshCheckpoint minimum) budget workspace ≡ arrive minimum (rulesOf P) workspace (after (rulesOf P) minimum budget)
+    → searchCall P (freshCheckpoint minimum) budget workspace ≡ arrive minimum (rulesOf P) workspace (after (searchOf P) minimum budget)
 unfolding after checkpointOf
 fresh-call P sound minimum budget workspace enough fits = go _ (walk-course P sound minimum 0 budget workspace)
   where
-    go : (r : Called) → Course P minimum 0 budget workspace r → r ≡ arrive minimum (rulesOf P) workspace (after (rulesOf P) minimum budget)
+    go : (r : Called) → Course P minimum 0 budget workspace r → r ≡ arrive minimum (rulesOf P) workspace (after (searchOf P) minimum budget)
     go r (few l e) = absurd (omega arith)
     go r (full l f m e) = absurd (omega arith)
-    go r (done l ok e) = e ∙ ap (λ (k : ℕ). arrive minimum (rulesOf P) workspace (after (rulesOf P) minimum k)) (zero-add budget)
+    go r (done l ok e) = e ∙ ap (λ (k : ℕ). arrive minimum (rulesOf P) workspace (after (searchOf P) minimum k)) (zero-add budget)

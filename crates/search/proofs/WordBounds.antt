@@ -13,9 +13,9 @@ use Rattle.bitset.specs.Members.{member}
 use Rattle.bitset.proofs.Membership.{member-zero}
 use Rattle.bitset.proofs.SetOf.{setOf-lt, no-member}
 use Rattle.bitset.proofs.CountBelow.{countBelow-congr}
-use Rattle.graph.specs.Below.{sumBelow}
+use Rattle.bounded.specs.Below.{sumBelow}
 use Rattle.graph.specs.Graph.{graph, place}
-use Rattle.mapping.specs.Problem.{Problem, SoundProblem}
+use Rattle.problem.specs.Problem.{Problem, SoundProblem}
 use Rattle.mapping.specs.Common.{unmapped, size}
 use Rattle.mapping.proofs.Size.{counted-mapped}
 use Rattle.search_tree.specs.Rules.{rulesOf}

@@ -9,7 +9,7 @@ use lib.Seq.{length-take-le}
 use borrow.Author.Tests.{lt-leb}
 use Rattle.bitset.specs.Least.{leastAbove}
 use Rattle.bitset.specs.declared.Least.the-variants.{Member, Empty}
-use Rattle.mapping.specs.Problem.{Problem, SoundProblem}
+use Rattle.problem.specs.Problem.{Problem, SoundProblem}
 use Rattle.mapping.specs.Common.{unmapped, size}
 use Rattle.search_tree.specs.Rules.{Rules, rulesOf}
 use Rattle.search_tree.specs.Node.{upperBound, extend, choicesAfter, laterSiblings}

@@ -15,8 +15,8 @@ use Rattle.bitset.specs.Members.{member}
 use Rattle.bitset.specs.Least.{leastMember, leastAbove}
 use Rattle.bitset.specs.declared.Least.the-variants.{Member, Empty}
 use Rattle.bitset.proofs.LeastBelow.{leastBelow-Member, leastBelow-Empty, leastAbove-Member, leastAbove-Empty}
-use Rattle.graph.specs.Below.{runBelow}
-use Rattle.mapping.specs.Problem.{Problem, SoundProblem}
+use Rattle.bounded.specs.Below.{runBelow}
+use Rattle.problem.specs.Problem.{Problem, SoundProblem}
 use Rattle.mapping.specs.Common.{unmapped, size}
 use Rattle.search_tree.specs.Rules.{Rules, rulesOf}
 use Rattle.search_tree.specs.Node.{candidate, candidates, choices, extend, children, choicesAfter, laterSiblings, listIf}

@@ -14,9 +14,9 @@ use lib.Seq.{length-take-le, take-suc, take-take, take-at}
 use borrow.Author.Tests.{lt-ltb, ne-eqb}
 use Rattle.bitset.specs.Members.{member}
 use Rattle.bitset.proofs.SetOf.{member-setOf, member-setOf-above, setOf-congr, meetOf-setOf, setOf-within}
-use Rattle.graph.specs.Below.{allBelow}
+use Rattle.bounded.specs.Below.{allBelow}
 use Rattle.graph.specs.Graph.{graph, edge}
-use Rattle.mapping.specs.Problem.{Problem, SoundProblem, allowed, consistent}
+use Rattle.problem.specs.Problem.{Problem, SoundProblem, allowed, consistent}
 use Rattle.mapping.specs.Common.{unmapped, size}
 use Rattle.mapping.proofs.Size.{counted, counted-mapped, size-nil, size-cons, size-append}
 use Rattle.search_tree.specs.Rules.{rulesOf}
@@ -132,14 +132,13 @@ module _ (P : Problem) (sound : SoundProblem P) where
       → (v : ℕ) → member (levelWord ws (size (take k path)) k) v ≡ candidate (rulesOf P) (take k path) k v
   row-member {path} {ws} {k} row words v = rw (words .word k (le-refl k) k (le-refl k) row) (member-word (take k path) k v)
 
-  -- at the root a candidate is a new vertex with the row's label
-  candidate-root : (r v : ℕ) → candidate (rulesOf P) [] r v ≡ (ltb v (P .new .order) && eqb (getD (P .old .labels) r 0) (getD (P .new .labels) v 0))
+  -- at the root a candidate is a new vertex that the row may lie on
+  candidate-root : (r v : ℕ) → candidate (rulesOf P) [] r v ≡ allowed P r v
   unfolding candidate allowed allBelow
   candidate-root r v = rw (and-true, and-self-left)
 
   -- The words of the root stand at level 0, whatever the path.
-  pub root-words : {ws ws′ : List ℕ} → RootWords (P .old .order) (P .old .labels) (P .new .order) (P .new .labels) ws ws′
-      → (path : List ℕ) → Words P path 0 ws′
+  pub root-words : {ws ws′ : List ℕ} → RootWords P ws ws′ → (path : List ℕ) → Words P path 0 ws′
   root-words {ws} {ws′} filled path = record {
     word = λ k h r l b. at-root k (omega arith) r b;
     exact = λ k h l. exact-root k (omega arith);
@@ -150,9 +149,7 @@ module _ (P : Problem) (sound : SoundProblem P) where
 
       at-root : (k : ℕ) → k ≡ 0 → (r : ℕ) → r < P .old .order → levelWord ws′ (size (take k path)) r ≡ wordOf P (take k path) r
       at-root k e r b =
-          let test : ℕ → Bool = λ v. eqb (getD (P .old .labels) r 0) (getD (P .new .labels) v 0) in
-          rw (e, size-nil, filled .root r b) (setOf-within (P .new .order) test (sound .new-sound .order-max)
-          ∙ sym (setOf-congr 64 (candidate (rulesOf P) [] r) (λ v. ltb v (P .new .order) && test v) (λ v h. candidate-root r v)))
+          rw (e, size-nil, filled .root r b) (sym (setOf-congr 64 (candidate (rulesOf P) [] r) (allowed P r) (λ v h. candidate-root r v)))
 
   -- of the candidates of a later row those stay, once w is taken, that are in the mask of w and the old edge
   candidate-masked : (q : List ℕ) (w r v : ℕ) → w < P .new .order

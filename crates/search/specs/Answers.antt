@@ -1,7 +1,8 @@
 -- What each answer of this crate says in 01's terms: the ceiling, or a refusal's number (01, "Refusals by place of checking").
 use mathlib.Core.List.{List}
 use Prim.Native.Nat.{ℕ}
-use Rattle.graph.specs.Answers.{Answer, passed, accepted, refused, flawNumber}
+use Rattle.answers.specs.Answer.{Answer, passed, accepted, refused}
+use Rattle.problem.specs.Answers.{problemFlawNumber}
 use Rattle.search.specs.declared.SearchAnswer.{SearchAnswer}
 use Rattle.search.specs.declared.SearchAnswer.the-variants.{Ceiling, Flawed, OutOfShape, FewWords, ManySteps}
 use Rattle.search.specs.declared.ShapeAnswer.{ShapeAnswer}
@@ -11,7 +12,7 @@ use Rattle.search.specs.Call.{Called}
 
 abbrev pub searchAnswer : SearchAnswer → Answer
 searchAnswer (Ceiling n) = accepted n
-searchAnswer (Flawed f) = refused (flawNumber f)
+searchAnswer (Flawed f) = refused (problemFlawNumber f)
 searchAnswer OutOfShape = refused 14
 searchAnswer FewWords = refused 15
 searchAnswer ManySteps = refused 16
@@ -21,5 +22,5 @@ calledOf r workspace = record { answer = searchAnswer (r .answer); checkpoint = 
 
 abbrev pub shapeAnswer : ShapeAnswer → Answer
 shapeAnswer shape.InShape = passed
-shapeAnswer (shape.Flawed f) = refused (flawNumber f)
+shapeAnswer (shape.Flawed f) = refused (problemFlawNumber f)
 shapeAnswer shape.OutOfShape = refused 14

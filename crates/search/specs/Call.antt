@@ -4,13 +4,15 @@ use mathlib.Core.List.{List, _++_}
 use Prim.Native.Nat.{ℕ, zero, suc, _+_, _^_}
 use lib.Dec.{leb, ltb}
 use lib.ListN.{length, drop, replicate}
-use Rattle.graph.specs.Answers.{Answer, passed, accepted, refused, refusedAt}
-use Rattle.mapping.specs.Problem.{Problem, problemAnswer}
+use Rattle.answers.specs.Answer.{Answer, accepted, refused, onAnswer}
+use Rattle.problem.specs.Problem.{Problem}
 use Rattle.search_tree.specs.Rules.{Rules, rulesOf}
+use Rattle.search_tree.specs.Search.{Search, searchOf}
 use Rattle.search_tree.specs.Walk.{State, visit}
 use Rattle.search_tree.specs.Ceiling.{ceiling}
-use Rattle.search.specs.declared.Checkpoint.{Checkpoint}
-use Rattle.search.specs.Checkpoints.{checkpointOf, stateOf, inShape}
+use Rattle.search.specs.declared.checkpoint.Checkpoint.{Checkpoint}
+use Rattle.search.specs.Checkpoints.{checkpointOf, stateOf}
+use Rattle.search.specs.Checking.{checkpointAnswer}
 
 -- the answer, the checkpoint and the workspace after a call
 pub record Called : Type 0 where
@@ -19,9 +21,9 @@ pub record Called : Type 0 where
   pub workspace : List ℕ
 
 -- k visits from a state
-unfoldable pub visits : Rules → ℕ → ℕ → State → State
-visits R minimum zero s = s
-visits R minimum (suc k) s = visit R minimum (visits R minimum k s)
+unfoldable pub visits : Search → ℕ → ℕ → State → State
+visits S minimum zero s = s
+visits S minimum (suc k) s = visit S minimum (visits S minimum k s)
 
 -- "A call needs 4,160 work words of 64 bits"
 abbrev pub wordsNeeded : ℕ
@@ -43,25 +45,21 @@ arrive minimum R workspace s =
 
 unfoldable pub advance : Problem → Checkpoint → ℕ → List ℕ → Called
 advance P c budget workspace =
-    arrive (c .minimum) (rulesOf P) workspace (visits (rulesOf P) (c .minimum) budget (stateOf (P .old .order) c))
+    arrive (c .minimum) (rulesOf P) workspace (visits (searchOf P) (c .minimum) budget (stateOf (P .old .order) c))
 
 -- 16: "unfinished and steps + allowance above 2^64 - 1"
 abbrev pub countFits : Checkpoint → ℕ → Bool
 countFits c budget = c .finished || ltb (c .steps + budget) (2 ^ 64)
 
-abbrev pub onSound : Answer → Called → (ℕ → Called) → Called
-onSound passed done refusal = done
-onSound (accepted n) done refusal = refusal n
-onSound (refused n) done refusal = refusal n
-onSound (refusedAt n at) done refusal = refusal n
+-- what follows on a checkpoint that passed, or its refusal's number
+abbrev pub onPassed : Answer → Called → (ℕ → Called) → Called
+onPassed answer done refusal = onAnswer done refusal refusal (λ number at. refusal number) answer
 
 -- 10, 11 and 12; then 14; then 15; then 16
 unfoldable pub searchCall : Problem → Checkpoint → ℕ → List ℕ → Called
 searchCall P c budget workspace =
-    onSound (problemAnswer P)
-    (cond (inShape P c)
+    onPassed (checkpointAnswer P c)
     (cond (leb wordsNeeded (length workspace))
     (cond (countFits c budget) (advance P c budget workspace) (refuse c workspace 16))
     (refuse c workspace 15))
-    (refuse c workspace 14))
     (refuse c workspace)

@@ -1,11 +1,11 @@
 -- A list of search calls on one problem, each on the checkpoint that the one before left: 01, "Bookmark and calls", third paragraph.
 use mathlib.Core.Path.{_≡_}
-use mathlib.Core.Bool.{Bool, true, false, cond}
+use mathlib.Core.Bool.{cond}
 use mathlib.Core.List.{List, [], _∷_, _++_}
 use Prim.Native.Nat.{ℕ, _+_}
-use Rattle.graph.specs.Answers.{Answer, passed, accepted, refused, refusedAt}
-use Rattle.mapping.specs.Problem.{Problem}
-use Rattle.search.specs.declared.Checkpoint.{Checkpoint}
+use Rattle.answers.specs.Answer.{isRefused}
+use Rattle.problem.specs.Problem.{Problem}
+use Rattle.search.specs.declared.checkpoint.Checkpoint.{Checkpoint}
 use Rattle.search.specs.Checkpoints.{freshCheckpoint}
 use Rattle.search.specs.Call.{Called, searchCall}
 
@@ -27,12 +27,6 @@ results P c (call ∷ later) = called P c call ∷ results P (called P c call .c
 unfoldable pub leaves : Problem → Checkpoint → List Call → Checkpoint
 leaves P c [] = c
 leaves P c (call ∷ later) = leaves P (called P c call .checkpoint) later
-
-abbrev pub isRefused : Answer → Bool
-isRefused passed = false
-isRefused (accepted n) = false
-isRefused (refused n) = true
-isRefused (refusedAt n at) = true
 
 -- of a refused call "its allowance isn't counted"
 abbrev pub counted : Called → ℕ → ℕ

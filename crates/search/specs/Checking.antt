@@ -1,8 +1,8 @@
 -- Whether a checkpoint is in shape for two graphs: 01, the rows "Tables lent", "Chart sound" and "Bookmark" of the refusals.
 use mathlib.Core.Bool.{cond}
-use Rattle.graph.specs.Answers.{Answer, passed, refused}
-use Rattle.mapping.specs.Problem.{Problem, problemAnswer, firstRefusal}
-use Rattle.search.specs.declared.Checkpoint.{Checkpoint}
+use Rattle.answers.specs.Answer.{Answer, passed, refused, firstRefusal}
+use Rattle.problem.specs.Problem.{Problem, problemAnswer}
+use Rattle.search.specs.declared.checkpoint.Checkpoint.{Checkpoint}
 use Rattle.search.specs.Checkpoints.{inShape}
 
 -- 10, 11 and 12; then 14

@@ -7,27 +7,27 @@ use mathlib.Core.Option.{Option, none, some}
 use Prim.Native.Nat.{ℕ, _-_, _≤_, _<_}
 use lib.Dec.{leb, ltb, eqb}
 use lib.ListN.{length, getD, take, replicate}
-use Rattle.graph.specs.Below.{allBelow}
-use Rattle.mapping.specs.Problem.{Problem}
+use Rattle.bounded.specs.Below.{allBelow}
+use Rattle.problem.specs.Problem.{Problem}
 use Rattle.mapping.specs.Common.{Common, unmapped, size}
 use Rattle.mapping.specs.Answers.{Outcome, accepted, refused, refusedRow, refusedRows}
 use Rattle.mapping.specs.Check.{listOutcome}
 use Rattle.search_tree.specs.Rules.{rulesOf}
 use Rattle.search_tree.specs.Node.{candidate}
 use Rattle.search_tree.specs.Walk.{State, fresh}
-use Rattle.search.specs.declared.Checkpoint.{Checkpoint}
+use Rattle.search.specs.declared.checkpoint.Checkpoint.{Checkpoint}
 
 -- 64 bytes: the list, and 0 after it
 abbrev pub padded : List ℕ → List ℕ
 padded l = l ++ replicate (64 - length l) 0
 
-abbrev pub isHeld : Option (List ℕ) → Bool
-isHeld none = false
-isHeld (some l) = true
+abbrev pub hasIncumbent : Option (List ℕ) → Bool
+hasIncumbent none = false
+hasIncumbent (some l) = true
 
-abbrev pub heldBytes : Option (List ℕ) → List ℕ
-heldBytes none = padded []
-heldBytes (some l) = padded l
+abbrev pub incumbentBytes : Option (List ℕ) → List ℕ
+incumbentBytes none = padded []
+incumbentBytes (some l) = padded l
 
 -- "has the floor, k steps, the next node's depth and path, unfinished or finished (then depth 0), the matching held by then, and unused bytes 0"
 unfoldable pub checkpointOf : ℕ → State → Checkpoint
@@ -38,8 +38,8 @@ checkpointOf minimum s =
       depth = length (s .path);
       path = padded (s .path);
       finished = s .finished;
-      holds = isHeld (s .held);
-      incumbent = heldBytes (s .held);
+      holds = hasIncumbent (s .incumbent);
+      incumbent = incumbentBytes (s .incumbent);
     }
 
 -- "A fresh one needs a floor only"
@@ -53,7 +53,7 @@ stateOf n c =
       steps = c .steps;
       path = take (c .depth) (c .path);
       finished = c .finished;
-      held = cond (c .holds) (some (take n (c .incumbent))) none;
+      incumbent = cond (c .holds) (some (take n (c .incumbent))) none;
     }
 
 -- 01's clauses, in its order
@@ -64,8 +64,8 @@ pub record InShape (P : Problem) (c : Checkpoint) : Type 0 where
   pub entry : (k : ℕ) → k < c .depth
       → (getD (c .path) k 0 ≡ unmapped) ⊎ (candidate (rulesOf P) (take k (c .path)) k (getD (c .path) k 0) ≡ true)
   -- "a held matching is good and reaches the floor"
-  pub held-common : c .holds ≡ true → Common P (take (P .old .order) (c .incumbent))
-  pub held-reaches : c .holds ≡ true → c .minimum ≤ size (take (P .old .order) (c .incumbent))
+  pub incumbent-common : c .holds ≡ true → Common P (take (P .old .order) (c .incumbent))
+  pub incumbent-reaches : c .holds ≡ true → c .minimum ≤ size (take (P .old .order) (c .incumbent))
   -- "finished has depth 0"
   pub finished-root : c .finished ≡ true → c .depth ≡ 0
   -- "steps are 0 exactly when it is unfinished at depth 0, and then nothing is held"
@@ -85,8 +85,8 @@ isAccepted (refusedRows n r e) = false
 abbrev pub pathFits : Problem → Checkpoint → ℕ → Bool
 pathFits P c k = eqb (getD (c .path) k 0) unmapped || candidate (rulesOf P) (take k (c .path)) k (getD (c .path) k 0)
 
-abbrev pub heldFits : Problem → Checkpoint → Bool
-heldFits P c =
+abbrev pub incumbentFits : Problem → Checkpoint → Bool
+incumbentFits P c =
     not (c .holds)
     || (isAccepted (listOutcome P (take (P .old .order) (c .incumbent))) && leb (c .minimum) (size (take (P .old .order) (c .incumbent))))
 
@@ -106,7 +106,7 @@ unfoldable pub inShape : Problem → Checkpoint → Bool
 inShape P c =
     leb (c .depth) (P .old .order)
     && allBelow (c .depth) (pathFits P c)
-    && heldFits P c
+    && incumbentFits P c
     && (not (c .finished) || eqb (c .depth) 0)
     && Bool·beq (eqb (c .steps) 0) (not (c .finished) && eqb (c .depth) 0)
     && (not (eqb (c .steps) 0) || not (c .holds))

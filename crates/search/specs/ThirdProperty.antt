@@ -8,17 +8,18 @@ use mathlib.Core.List.{List, _++_}
 use mathlib.Core.Option.{Option, none, some}
 use Prim.Native.Nat.{ℕ, _+_, _-_, _^_, _≤_, _<_, min}
 use lib.ListN.{length, take, drop, replicate}
-use Rattle.graph.specs.Answers.{Answer, accepted, refused}
-use Rattle.mapping.specs.Problem.{Problem}
+use Rattle.answers.specs.Answer.{Answer, accepted, refused, isRefused}
+use Rattle.problem.specs.Problem.{Problem}
 use Rattle.mapping.specs.Common.{Common, size}
 use Rattle.search_tree.specs.Rules.{rulesOf}
+use Rattle.search_tree.specs.Search.{searchOf}
 use Rattle.search_tree.specs.Walk.{State, after}
 use Rattle.search_tree.specs.Ceiling.{ceiling}
 use Rattle.search_tree.specs.Best.{Best}
-use Rattle.search.specs.declared.Checkpoint.{Checkpoint}
+use Rattle.search.specs.declared.checkpoint.Checkpoint.{Checkpoint}
 use Rattle.search.specs.Checkpoints.{checkpointOf}
 use Rattle.search.specs.Call.{wordsNeeded}
-use Rattle.search.specs.Calls.{Call, isRefused, CallIn, upTo, reached, spent, resultOf}
+use Rattle.search.specs.Calls.{Call, CallIn, upTo, reached, spent, resultOf}
 
 -- the table's row "Search call", for a call on checkpoint c; "the first condition met in this order gives it, and no number is given
 -- without its condition"
@@ -37,8 +38,8 @@ pub record Unchanged (c : Checkpoint) (workspace : List ℕ) (c′ : Checkpoint)
   pub same-workspace : workspace′ ≡ workspace
 
 -- what a checkpoint holds
-abbrev pub heldIn : Problem → Checkpoint → Option (List ℕ)
-heldIn P c = cond (c .holds) (some (take (P .old .order) (c .incumbent))) none
+abbrev pub incumbentIn : Problem → Checkpoint → Option (List ℕ)
+incumbentIn P c = cond (c .holds) (some (take (P .old .order) (c .incumbent))) none
 
 -- the visits that a list of calls makes: the smaller of the total t and the summed budgets of the calls not refused
 abbrev pub visitsMade : Problem → ℕ → ℕ → List Call → ℕ
@@ -46,7 +47,7 @@ visitsMade P minimum t calls = min t (spent P minimum calls)
 
 -- the walk's state once they are made
 abbrev pub walkAfter : Problem → ℕ → ℕ → List Call → State
-walkAfter P minimum t calls = after (rulesOf P) minimum (visitsMade P minimum t calls)
+walkAfter P minimum t calls = after (searchOf P) minimum (visitsMade P minimum t calls)
 
 -- t is the walk's total
 pub record ThirdProperty (P : Problem) (minimum t : ℕ) (calls : List Call) : Type 0 where
@@ -70,7 +71,7 @@ pub record ThirdProperty (P : Problem) (minimum t : ℕ) (calls : List Call) : T
   -- and path, unfinished or finished (then depth 0), the matching held by then, and unused bytes 0."
   pub checkpoint : reached P minimum calls ≡ checkpointOf minimum (walkAfter P minimum t calls)
   -- what is held is good and reaches the floor
-  pub held : (h : List ℕ) → heldIn P (reached P minimum calls) ≡ some h → Common P h × (minimum ≤ size h)
+  pub incumbent : (h : List ℕ) → incumbentIn P (reached P minimum calls) ≡ some h → Common P h × (minimum ≤ size h)
   -- "A returned fence is that of the walk after the visits made by the end of that call."
   pub ceilings : (x : CallIn calls) → isRefused (resultOf P minimum x .answer) ≡ false
       → resultOf P minimum x .answer ≡ accepted (ceiling (rulesOf P) minimum (walkAfter P minimum t (upTo x)))
@@ -79,7 +80,7 @@ pub record ThirdProperty (P : Problem) (minimum t : ℕ) (calls : List Call) : T
   -- "finished exactly at the total"
   pub finished : (reached P minimum calls .finished ≡ true) ↔ (reached P minimum calls .steps ≡ t)
   -- once finished, what is held is best: good, no other has more, and the first of those in the order; nothing where none reaches the floor
-  pub best : reached P minimum calls .finished ≡ true → Best (Common P) minimum (heldIn P (reached P minimum calls))
+  pub best : reached P minimum calls .finished ≡ true → Best (Common P) minimum (incumbentIn P (reached P minimum calls))
   -- "an accepted one leaves these 0 and later words untouched"
   pub cleared : (x : CallIn calls) → isRefused (resultOf P minimum x .answer) ≡ false
       → resultOf P minimum x .workspace ≡ replicate wordsNeeded 0 ++ drop wordsNeeded (x .call .workspace)

@@ -1,21 +1,24 @@
--- What the search's code holds between two visits: a walk's numbers, its path and incumbent, and the words of the path's ancestors.
+-- What the search's code holds between two visits: a walk's numbers, its path and incumbent, and the words of the path's ancestors
+-- (01, "The walk" and "Bookmark and calls").
 use mathlib.Core.Path.{_≡_}
 use mathlib.Core.Bool.{true, false, cond}
 use mathlib.Core.Logic.{_⊎_}
-use mathlib.Core.List.{List, [], _∷_}
+use mathlib.Core.List.{List, [], _∷_, map}
 use mathlib.Core.Option.{Option, none, some}
 use Prim.Native.Nat.{ℕ, suc, _+_, _-_, _^_, _≤_, _<_}
 use lib.ListN.{length, getD, take}
 use Rattle.graph.specs.Graph.{graph}
-use Rattle.mapping.specs.Problem.{Problem, SoundProblem}
+use Rattle.problem.specs.Problem.{Problem, SoundProblem}
 use Rattle.mapping.specs.Common.{unmapped, size}
-use Rattle.search_tree.specs.Rules.{rulesOf}
-use Rattle.search_tree.specs.Node.{children, laterSiblings}
+use Rattle.search_tree.specs.Rules.{Rules, rulesOf}
+use Rattle.search_tree.specs.Search.{searchOf}
+use Rattle.search_tree.specs.Node.{upperBound, extend, children, choicesAfter, laterSiblings}
 use Rattle.search_tree.specs.Trees.{Reached}
 use Rattle.search_tree.specs.Walk.{State, cutoff}
+use Rattle.search_tree.specs.Ceiling.{topBound}
 use Rattle.search.specs.declared.walk.Place.{Place}
 use Rattle.search.specs.declared.walk.Walk.{Walk}
-use Rattle.search.specs.declared.Checkpoint.{Checkpoint}
+use Rattle.search.specs.declared.checkpoint.Checkpoint.{Checkpoint}
 use Rattle.search.specs.Checkpoints.{stateOf, checkpointOf, InShape}
 use Rattle.search.specs.Call.{visits}
 use Rattle.search.specs.Words.{Masks, Words}
@@ -36,31 +39,55 @@ pub record AtNode (P : Problem) (path : List ℕ) (depth pairs : ℕ) (workspace
   pub pairs-are : pairs ≡ size (take depth path)
   pub words : Words P path (depth - 1) workspace
 
+-- a checkpoint's node, with its number of pairs, and the words of its ancestors
+abbrev pub AtCheckpoint : Problem → Checkpoint → List ℕ → Type 0
+AtCheckpoint P c workspace = AtNode P (c .path) (c .depth) (size (take (c .depth) (c .path))) workspace
+
+-- a row that is to be decided, after so many pairs, and the words of the path before it and of its ancestors
+pub record AtRow (P : Problem) (path : List ℕ) (row pairs : ℕ) (workspace : List ℕ) : Type 0 where
+  pub path-length : length path ≡ 64
+  pub row-max : row < P .old .order
+  pub pairs-are : pairs ≡ size (take row path)
+  pub words : Words P path row workspace
+
 -- what keeps the code's reads and writes in bounds, whatever the problem
-pub record InBounds (n : ℕ) (edges masks path : List ℕ) (depth pairs : ℕ) (workspace : List ℕ) : Type 0 where
-  pub order-max : n ≤ 64
+pub record InBounds (edges masks path : List ℕ) (depth pairs : ℕ) (workspace : List ℕ) : Type 0 where
   pub edges-length : length edges ≡ 4096
   pub masks-length : length masks ≡ 16384
   pub path-length : length path ≡ 64
   pub room : 4160 ≤ length workspace
-  pub depth-max : depth ≤ n
+  pub depth-max : depth ≤ 64
   pub pairs-are : pairs ≡ size (take depth path)
   pub entry : (k : ℕ) → k < depth → (getD path k 0 ≡ unmapped) ⊎ (getD path k 0 < 64)
 
 -- the state that a walk's numbers, path and incumbent stand for
-abbrev pub heldIn : ℕ → Walk → List ℕ → Option (List ℕ)
-heldIn n w incumbent = cond (w .holds) (some (take n incumbent)) none
+abbrev pub walkIncumbent : ℕ → Walk → List ℕ → Option (List ℕ)
+walkIncumbent n w incumbent = cond (w .holds) (some (take n incumbent)) none
 
 unfoldable pub walkState : ℕ → Walk → List ℕ → List ℕ → State
 walkState n w path incumbent =
-    record { steps = w .steps; path = take (w .place .depth) path; finished = w .place .finished; held = heldIn n w incumbent }
+    record { steps = w .steps; path = take (w .place .depth) path; finished = w .place .finished; incumbent = walkIncumbent n w incumbent }
 
 -- what holds between two visits
 pub record Ready (P : Problem) (minimum : ℕ) (w : Walk) (path incumbent workspace : List ℕ) : Type 0 where
   pub node : AtNode P path (w .place .depth) (w .place .pairs) workspace
   pub incumbent-length : length incumbent ≡ 64
-  pub cutoff-is : w .cutoff ≡ cutoff minimum (heldIn (P .old .order) w incumbent)
+  pub cutoff-is : w .cutoff ≡ cutoff minimum (walkIncumbent (P .old .order) w incumbent)
   pub finished-root : w .place .finished ≡ true → w .place .depth ≡ 0
+
+-- the walk has come to a state, and is ready for a visit there
+pub record Arrives (P : Problem) (minimum n : ℕ) (s : State) (w : Walk) (path incumbent workspace : List ℕ) : Type 0 where
+  pub state-is : walkState n w path incumbent ≡ s
+  pub ready : Ready P minimum w path incumbent workspace
+
+-- the upper bound of a node, and its own words
+pub record Bounded (P : Problem) (path : List ℕ) (depth : ℕ) (workspace : List ℕ) (bound : ℕ) : Type 0 where
+  pub bound-is : bound ≡ upperBound (rulesOf P) (take depth path)
+  pub words : Words P path depth workspace
+
+-- one more than the greatest upper bound of a node's children after the choice w
+abbrev pub levelTop : Rules → List ℕ → ℕ → ℕ
+levelTop R path w = topBound R (map (extend path) (choicesAfter R path w))
 
 -- the place is the first child of the node
 pub record Descends (P : Problem) (path : List ℕ) (depth : ℕ) (workspace : List ℕ) (r : Place) (path′ : List ℕ) : Type 0 where
@@ -92,7 +119,7 @@ pub record Starts (n : ℕ) (c : Checkpoint) (w : Walk) : Type 0 where
   pub state-is : walkState n w (c .path) (c .incumbent) ≡ stateOf n c
   pub depth-is : w .place .depth ≡ c .depth
   pub pairs-are : w .place .pairs ≡ size (take (c .depth) (c .path))
-  pub cutoff-is : w .cutoff ≡ cutoff (c .minimum) (heldIn n w (c .incumbent))
+  pub cutoff-is : w .cutoff ≡ cutoff (c .minimum) (walkIncumbent n w (c .incumbent))
   pub finished-is : w .place .finished ≡ c .finished
   pub steps-are : w .steps ≡ c .steps
 
@@ -101,10 +128,10 @@ pub record Resumes (n : ℕ) (edges masks : List ℕ) (c : Checkpoint) (workspac
   pub problem : Problem
   pub setting : Setting problem n edges masks
   pub shape : InShape problem c
-  pub node : AtNode problem (c .path) (c .depth) (size (take (c .depth) (c .path))) workspace
+  pub node : AtCheckpoint problem c workspace
   pub incumbent-length : length (c .incumbent) ≡ 64
 
 -- the checkpoint after so many visits, and the words of its path's ancestors
 pub record Visited (P : Problem) (budget : ℕ) (c : Checkpoint) (workspace : List ℕ) (r : Checkpoint) : Type 0 where
-  pub checkpoint-is : r ≡ checkpointOf (c .minimum) (visits (rulesOf P) (c .minimum) budget (stateOf (P .old .order) c))
-  pub node : AtNode P (r .path) (r .depth) (size (take (r .depth) (r .path))) workspace
+  pub checkpoint-is : r ≡ checkpointOf (c .minimum) (visits (searchOf P) (c .minimum) budget (stateOf (P .old .order) c))
+  pub node : AtCheckpoint P r workspace

@@ -9,7 +9,7 @@ use lib.ListN.{length, getD, take}
 use Rattle.bitset.specs.Members.{member, setOf, meetOf}
 use Rattle.bitset.specs.Count.{countBelow}
 use Rattle.graph.specs.Graph.{Graph, place, edge}
-use Rattle.mapping.specs.Problem.{Problem}
+use Rattle.problem.specs.Problem.{Problem, allowed}
 use Rattle.mapping.specs.Common.{size}
 use Rattle.search_tree.specs.Rules.{rulesOf}
 use Rattle.search_tree.specs.Node.{candidate}
@@ -53,11 +53,11 @@ pub record SameLevels (pairs : ℕ) (workspace workspace′ : List ℕ) : Type 0
   pub sets : (p : ℕ) → p ≤ pairs → openSet p workspace′ ≡ openSet p workspace
   pub word : (p r : ℕ) → p ≤ pairs → r < 64 → levelWord workspace′ p r ≡ levelWord workspace p r
 
--- level 0 holds the words of the root
-pub record RootWords (n : ℕ) (labels : List ℕ) (m : ℕ) (newLabels workspace workspace′ : List ℕ) : Type 0 where
+-- level 0 holds the words of the root: the new vertices that a row may lie on
+pub record RootWords (P : Problem) (workspace workspace′ : List ℕ) : Type 0 where
   pub words : length workspace′ ≡ length workspace
-  pub root : (r : ℕ) → r < n → levelWord workspace′ 0 r ≡ setOf m (λ v. eqb (getD labels r 0) (getD newLabels v 0))
-  pub exact : ExactSet n 0 workspace′
+  pub root : (r : ℕ) → r < P .old .order → levelWord workspace′ 0 r ≡ setOf 64 (allowed P r)
+  pub exact : ExactSet (P .old .order) 0 workspace′
 
 -- the word that a later row r has once `row`, with `pairs` pairs before it, took `value`
 abbrev pub metWord : List ℕ → List ℕ → ℕ → ℕ → ℕ → List ℕ → ℕ → ℕ

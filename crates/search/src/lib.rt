@@ -1,52 +1,57 @@
 // The search for the largest common subgraph of two graphs: resumable calls on a checkpoint.
 
 mod ceiling;
+mod checkpoint;
 mod shape;
-mod store;
 mod walk;
 mod words;
 
-use graph::Flaw;
-use graph::Soundness;
+pub use checkpoint::Checkpoint;
+use problem::Edges;
+use problem::Labels;
+use problem::Orders;
+use problem::ProblemAnswer;
+use problem::ProblemFlaw;
 ghost use mathlib.Core.Path.{_≡_};
-ghost use Prim.Native.Nat.{_≤_};
 ghost use lib.Dec.{T};
-ghost use lib.ListN.{length, take};
-ghost use Rattle.graph.specs.Graph.{graph};
-ghost use Rattle.mapping.specs.Problem.{Problem, problem, SoundProblem};
-ghost use Rattle.mapping.specs.Common.{size};
-ghost use Rattle.search_tree.specs.Rules.{rulesOf};
-ghost use Rattle.search_tree.specs.Walk.{visit};
-ghost use Rattle.search.specs.Checkpoints.{checkpointOf, freshCheckpoint, stateOf, InShape};
-ghost use Rattle.search.specs.Walking.{Setting, AtNode, Resumes, Visited};
+ghost use lib.ListN.{length};
+ghost use Rattle.answers.specs.Answer.{refusalNumber};
+ghost use Rattle.problem.specs.Problem.{SoundProblem};
+ghost use Rattle.problem.specs.Lent.{lent};
+ghost use Rattle.search.specs.Checkpoints.{InShape};
 ghost use Rattle.search.specs.Call.{advance as advanced, countFits, searchCall};
 ghost use Rattle.search.specs.Checking.{checkpointAnswer};
-ghost use Rattle.search.specs.Answers.{calledOf, shapeAnswer};
+ghost use Rattle.search.specs.Answers.{calledOf, searchAnswer, shapeAnswer};
 
-// 01 calls a checkpoint a bookmark, the minimum a floor, the incumbent the held matching.
-pub struct Checkpoint {
-    pub minimum: u8,
-    pub steps: u64,
-    pub depth: usize,
-    pub path: [u8; 64],
-    pub finished: bool,
-    pub holds: bool,
-    pub incumbent: [u8; 64],
-}
+// How many words of 64 bits a call needs.
+pub const WORDS: usize = 4160;
 
 // The answer of a search call: the ceiling, or the refusal.
 pub enum SearchAnswer {
     Ceiling(usize),
-    Flawed(Flaw),
+    Flawed(ProblemFlaw),
     OutOfShape,
     FewWords,
     ManySteps,
 }
 
+// The document's number of a refusal, and 0 for a ceiling.
+pub fn search_number(answer: SearchAnswer) -> u8
+    ensures { λ r. ⌜ r ≡ refusalNumber (searchAnswer answer) ⌝ }
+{
+    match answer {
+        SearchAnswer::Ceiling(_) => 0,
+        SearchAnswer::Flawed(flaw) => problem::problem_flaw_number(flaw),
+        SearchAnswer::OutOfShape => 14,
+        SearchAnswer::FewWords => 15,
+        SearchAnswer::ManySteps => 16,
+    }
+}
+
 // The answer of `check_checkpoint`.
 pub enum ShapeAnswer {
     InShape,
-    Flawed(Flaw),
+    Flawed(ProblemFlaw),
     OutOfShape,
 }
 
@@ -56,96 +61,19 @@ pub struct Searched {
     pub checkpoint: Checkpoint,
 }
 
-impl Checkpoint {
-    // A search that has not begun.
-    pub fn fresh(minimum: u8) -> Checkpoint
-        ensures { λ r. ⌜ r ≡ freshCheckpoint minimum ⌝ }
-    {
-        Checkpoint {
-            minimum,
-            steps: 0,
-            depth: 0,
-            path: [0u8; 64],
-            finished: false,
-            holds: false,
-            incumbent: [0u8; 64],
-        }
-    }
-
-    // As many visits as the budget says, fewer only if the search finishes, over a workspace that holds the words of the path's ancestors.
-    fn visits(
-        self,
-        budget: u64,
-        order: usize,
-        edges: &[u8],
-        masks: &[u64],
-        workspace: &mut [u64],
-    ) -> Checkpoint
-        requires { ⌜ Resumes order (now edges) (now masks) self (now workspace) ⌝ }
-        requires { ⌜ T (countFits self budget) ⌝ }
-        ensures { λ r. ⌜ ((P : Problem) → Setting P order (now (edges .entry)) (now (masks .entry)) → InShape P self → AtNode P (self .path) (self .depth) (size (take (self .depth) (self .path))) (now (workspace .entry))
-            → Visited P budget self (now (workspace .exit)) r) ⌝ }
-    {
-        let minimum = self.minimum;
-        let walk = store::start(self, order);
-        let mut path = self.path;
-        let mut incumbent = self.incumbent;
-        let end = walk::run(
-            walk,
-            budget,
-            order,
-            edges,
-            masks,
-            &mut path,
-            &mut incumbent,
-            workspace,
-        );
-        store::store(minimum, end, path, incumbent, order)
-    }
-
-    // One visit turns a checkpoint into the next, and leaves the words of the next path's ancestors.
-    fn visit(self, order: usize, edges: &[u8], masks: &[u64], workspace: &mut [u64]) -> Checkpoint
-        requires { ⌜ Resumes order (now edges) (now masks) self (now workspace) ⌝ }
-        requires { ⌜ T (countFits self 1) ⌝ }
-        ensures { λ r. ⌜ ((P : Problem) → Setting P order (now (edges .entry)) (now (masks .entry)) → InShape P self → AtNode P (self .path) (self .depth) (size (take (self .depth) (self .path))) (now (workspace .entry))
-            → (r ≡ checkpointOf (self .minimum) (visit (rulesOf P) (self .minimum) (stateOf order self)))
-            × AtNode P (r .path) (r .depth) (size (take (r .depth) (r .path))) (now (workspace .exit))) ⌝ }
-    {
-        self.visits(1, order, edges, masks, workspace)
-    }
-}
-
 // Whether the checkpoint is in shape for the two graphs.
-pub fn check_checkpoint(
-    old_order: usize,
-    old_labels: &[u8],
-    old_edges: &[u8],
-    new_order: usize,
-    new_labels: &[u8],
-    new_edges: &[u8],
+pub fn check_checkpoint<'a>(
+    orders: Orders,
+    labels: Labels<'a>,
+    edges: Edges<'a>,
     checkpoint: Checkpoint,
 ) -> ShapeAnswer
-    ensures { λ r. ⌜ shapeAnswer r ≡ checkpointAnswer (problem (graph «old_order» (now («old_labels» .entry)) (now («old_edges» .entry))) (graph «new_order» (now («new_labels» .entry)) (now («new_edges» .entry)))) checkpoint ⌝ }
+    ensures { λ r. ⌜ shapeAnswer r ≡ checkpointAnswer (lent orders (labels .entry) (edges .entry)) checkpoint ⌝ }
 {
-    match mapping::check_problem(
-        old_order,
-        old_labels,
-        old_edges,
-        new_order,
-        new_labels,
-        new_edges,
-    ) {
-        Soundness::Flawed(flaw) => ShapeAnswer::Flawed(flaw),
-        Soundness::Sound => {
-            if !shape::in_shape(
-                old_order,
-                old_labels,
-                old_edges,
-                new_order,
-                new_labels,
-                new_edges,
-                checkpoint,
-            ) {
+    match problem::check_problem(orders, labels, edges) {
+        ProblemAnswer::Flawed(flaw) => ShapeAnswer::Flawed(flaw),
+        ProblemAnswer::Sound => {
+            if !shape::in_shape(orders, labels, edges, checkpoint) {
                 return ShapeAnswer::OutOfShape;
             }
             ShapeAnswer::InShape
@@ -154,39 +82,38 @@ pub fn check_checkpoint(
 }
 
 // The visits of an accepted call, from the words of the root on, and the ceiling there.
-fn advance(
-    old_order: usize,
-    old_labels: &[u8],
-    old_edges: &[u8],
-    new_order: usize,
-    new_labels: &[u8],
-    new_edges: &[u8],
+fn advance<'a>(
+    orders: Orders,
+    labels: Labels<'a>,
+    edges: Edges<'a>,
     checkpoint: Checkpoint,
     budget: u64,
     workspace: &mut [u64],
 ) -> Searched
-    requires { ⌜ SoundProblem (problem (graph «old_order» (now «old_labels») (now «old_edges»)) (graph «new_order» (now «new_labels») (now «new_edges»))) ⌝ }
-    requires { ⌜ InShape (problem (graph «old_order» (now «old_labels») (now «old_edges»)) (graph «new_order» (now «new_labels») (now «new_edges»))) checkpoint ⌝ }
+    requires { ⌜ SoundProblem (lent orders labels edges) ⌝ }
+    requires { ⌜ InShape (lent orders labels edges) checkpoint ⌝ }
     requires { ⌜ (length (now workspace) ≡ 4160) × T (countFits checkpoint budget) ⌝ }
-    ensures { λ r. ⌜ calledOf r (now (workspace .exit)) ≡ advanced (problem (graph «old_order» (now («old_labels» .entry)) (now («old_edges» .entry))) (graph «new_order» (now («new_labels» .entry)) (now («new_edges» .entry)))) checkpoint budget (now (workspace .entry)) ⌝ }
+    ensures { λ r. ⌜ calledOf r (now (workspace .exit))
+        ≡ advanced (lent orders (labels .entry) (edges .entry)) checkpoint budget (now (workspace .entry)) ⌝ }
 {
-    let mut masks = [0u64; 16384];
-    words::fill_masks(new_order, new_edges, &mut masks);
-    words::root_words(old_order, old_labels, new_order, new_labels, workspace);
+    let old_order = orders[0];
+    let old_edges = edges[0];
+    let mut masks = [0u64; words::MASKS];
+    words::fill_masks(orders[1], edges[1], &mut masks);
+    words::root_words(orders, labels, workspace);
     let depth = checkpoint.depth;
     let path = checkpoint.path;
-    walk::rebuild(old_order, old_edges, &masks, &path, workspace, depth);
-    let end = checkpoint.visits(budget, old_order, old_edges, &masks, workspace);
+    walk::rebuild(old_edges, &masks, &path, workspace, depth);
+    let end = checkpoint::visits(checkpoint, budget, old_order, old_edges, &masks, workspace);
     let end_path = end.path;
     let top = ceiling::ceiling(
-        store::start(end, old_order),
-        old_order,
+        checkpoint::start(end, old_order),
         old_edges,
         &masks,
         &end_path,
         workspace,
     );
-    store::clear_words(workspace);
+    words::clear_words(workspace);
     Searched {
         answer: SearchAnswer::Ceiling(top),
         checkpoint: end,
@@ -194,53 +121,34 @@ fn advance(
 }
 
 // One search call: the checkpoint is advanced by as many visits as the budget says, and the ceiling is returned.
-pub fn search(
-    old_order: usize,
-    old_labels: &[u8],
-    old_edges: &[u8],
-    new_order: usize,
-    new_labels: &[u8],
-    new_edges: &[u8],
+pub fn search<'a>(
+    orders: Orders,
+    labels: Labels<'a>,
+    edges: Edges<'a>,
     checkpoint: Checkpoint,
     budget: u64,
     workspace: &mut [u64],
 ) -> Searched
-    ensures { λ r. ⌜ calledOf r (now (workspace .exit)) ≡ searchCall (problem (graph «old_order» (now («old_labels» .entry)) (now («old_edges» .entry))) (graph «new_order» (now («new_labels» .entry)) (now («new_edges» .entry)))) checkpoint budget (now (workspace .entry)) ⌝ }
+    ensures { λ r. ⌜ calledOf r (now (workspace .exit))
+        ≡ searchCall (lent orders (labels .entry) (edges .entry)) checkpoint budget (now (workspace .entry)) ⌝ }
 {
-    match mapping::check_problem(
-        old_order,
-        old_labels,
-        old_edges,
-        new_order,
-        new_labels,
-        new_edges,
-    ) {
-        Soundness::Flawed(flaw) => Searched {
+    match check_checkpoint(orders, labels, edges, checkpoint) {
+        ShapeAnswer::Flawed(flaw) => Searched {
             answer: SearchAnswer::Flawed(flaw),
             checkpoint,
         },
-        Soundness::Sound => {
-            if !shape::in_shape(
-                old_order,
-                old_labels,
-                old_edges,
-                new_order,
-                new_labels,
-                new_edges,
-                checkpoint,
-            ) {
-                return Searched {
-                    answer: SearchAnswer::OutOfShape,
-                    checkpoint,
-                };
-            }
-            if workspace.len() < 4160 {
+        ShapeAnswer::OutOfShape => Searched {
+            answer: SearchAnswer::OutOfShape,
+            checkpoint,
+        },
+        ShapeAnswer::InShape => {
+            if workspace.len() < WORDS {
                 return Searched {
                     answer: SearchAnswer::FewWords,
                     checkpoint,
                 };
             }
-            if !store::count_fits(checkpoint, budget) {
+            if !checkpoint::count_fits(checkpoint, budget) {
                 return Searched {
                     answer: SearchAnswer::ManySteps,
                     checkpoint,
@@ -248,15 +156,12 @@ pub fn search(
             }
             // only these words are lent on, so later words stay untouched
             advance(
-                old_order,
-                old_labels,
-                old_edges,
-                new_order,
-                new_labels,
-                new_edges,
+                orders,
+                labels,
+                edges,
                 checkpoint,
                 budget,
-                &mut workspace[..4160],
+                &mut workspace[..WORDS],
             )
         }
     }

@@ -1,22 +1,27 @@
 // The test of a checkpoint's shape for two sound graphs, clause by clause.
 
 use super::Checkpoint;
+use graph::MAX_ORDER;
 use mapping::MappingAnswer;
+use mapping::UNMAPPED;
+use problem::Edges;
+use problem::Labels;
+use problem::Orders;
 ghost use mathlib.Core.Path.{_≡_};
-ghost use lib.ListN.{length, take, replicate};
+ghost use lib.ListN.{length, getD, take, replicate};
 ghost use mathlib.Core.List.{_++_};
 ghost use Prim.Native.Nat.{_-_, _≤_};
-ghost use Rattle.graph.specs.Graph.{graph};
-ghost use Rattle.graph.specs.Below.{allBelow};
-ghost use Rattle.mapping.specs.Problem.{problem, SoundProblem};
-ghost use Rattle.search.specs.Checkpoints.{pathFits, heldFits, stepsFit, restFits, inShape};
+ghost use Rattle.bounded.specs.Below.{allBelow};
+ghost use Rattle.problem.specs.Problem.{SoundProblem};
+ghost use Rattle.problem.specs.Lent.{lent};
+ghost use Rattle.search.specs.Checkpoints.{pathFits, incumbentFits, stepsFit, restFits, inShape};
 
 // The path's first `depth` entries, and 255 after them: a mapping where every undecided row is left out.
-pub fn filled(path: &[u8; 64], depth: usize) -> [u8; 64]
+pub fn filled(path: &[u8; MAX_ORDER], depth: usize) -> [u8; MAX_ORDER]
     requires { ⌜ (length (now path) ≡ 64) × (depth ≤ 64) ⌝ }
     ensures { λ r. ⌜ r ≡ take depth (now (path .entry)) ++ replicate (64 - depth) 255 ⌝ }
 {
-    let mut entries = [255u8; 64];
+    let mut entries = [UNMAPPED; MAX_ORDER];
     let mut i = 0;
     while i < depth {
         entries[i] = path[i];
@@ -39,7 +44,7 @@ pub fn rest_fits(order: usize, checkpoint: Checkpoint) -> bool
         used = order;
     }
     let mut i = 0;
-    while i < 64 {
+    while i < MAX_ORDER {
         if depth <= i {
             if path[i] != 0 {
                 return false;
@@ -56,65 +61,45 @@ pub fn rest_fits(order: usize, checkpoint: Checkpoint) -> bool
 }
 
 // Each path byte is a candidate of its row or 255: exactly where the path, filled up with 255, is a common subgraph.
-pub fn path_fits(
-    old_order: usize,
-    old_labels: &[u8],
-    old_edges: &[u8],
-    new_order: usize,
-    new_labels: &[u8],
-    new_edges: &[u8],
+pub fn path_fits<'a>(
+    orders: Orders,
+    labels: Labels<'a>,
+    edges: Edges<'a>,
     checkpoint: Checkpoint,
 ) -> bool
-    requires { ⌜ SoundProblem (problem (graph «old_order» (now «old_labels») (now «old_edges»)) (graph «new_order» (now «new_labels») (now «new_edges»))) ⌝ }
-    requires { ⌜ (checkpoint .depth ≤ «old_order») × (length (checkpoint .path) ≡ 64) ⌝ }
-    ensures { λ r. ⌜ r ≡ allBelow (checkpoint .depth) (pathFits (problem (graph «old_order» (now («old_labels» .entry)) (now («old_edges» .entry))) (graph «new_order» (now («new_labels» .entry)) (now («new_edges» .entry)))) checkpoint) ⌝ }
+    requires { ⌜ SoundProblem (lent orders labels edges) ⌝ }
+    requires { ⌜ (checkpoint .depth ≤ getD orders 0 0) × (length (checkpoint .path) ≡ 64) ⌝ }
+    ensures { λ r. ⌜ r ≡ allBelow (checkpoint .depth) (pathFits (lent orders (labels .entry) (edges .entry)) checkpoint) ⌝ }
 {
+    let order = orders[0];
     let depth = checkpoint.depth;
     let path = checkpoint.path;
     let entries = filled(&path, depth);
-    match mapping::check_rows(
-        old_order,
-        old_labels,
-        old_edges,
-        new_order,
-        new_labels,
-        new_edges,
-        &entries[..old_order],
-    ) {
+    match mapping::check_rows(orders, labels, edges, &entries[..order]) {
         MappingAnswer::Common(_) => true,
         _ => false,
     }
 }
 
 // What is held is a common subgraph and reaches the minimum.
-pub fn held_fits(
-    old_order: usize,
-    old_labels: &[u8],
-    old_edges: &[u8],
-    new_order: usize,
-    new_labels: &[u8],
-    new_edges: &[u8],
+pub fn incumbent_fits<'a>(
+    orders: Orders,
+    labels: Labels<'a>,
+    edges: Edges<'a>,
     checkpoint: Checkpoint,
 ) -> bool
-    requires { ⌜ SoundProblem (problem (graph «old_order» (now «old_labels») (now «old_edges»)) (graph «new_order» (now «new_labels») (now «new_edges»))) ⌝ }
+    requires { ⌜ SoundProblem (lent orders labels edges) ⌝ }
     requires { ⌜ length (checkpoint .incumbent) ≡ 64 ⌝ }
-    ensures { λ r. ⌜ r ≡ heldFits (problem (graph «old_order» (now («old_labels» .entry)) (now («old_edges» .entry))) (graph «new_order» (now («new_labels» .entry)) (now («new_edges» .entry)))) checkpoint ⌝ }
+    ensures { λ r. ⌜ r ≡ incumbentFits (lent orders (labels .entry) (edges .entry)) checkpoint ⌝ }
 {
     let holds = checkpoint.holds;
     if !holds {
         return true;
     }
+    let order = orders[0];
     let minimum = checkpoint.minimum as usize;
     let incumbent = checkpoint.incumbent;
-    match mapping::check_rows(
-        old_order,
-        old_labels,
-        old_edges,
-        new_order,
-        new_labels,
-        new_edges,
-        &incumbent[..old_order],
-    ) {
+    match mapping::check_rows(orders, labels, edges, &incumbent[..order]) {
         MappingAnswer::Common(size) => minimum <= size,
         _ => false,
     }
@@ -144,46 +129,28 @@ pub fn steps_fit(checkpoint: Checkpoint) -> bool
 }
 
 // The checkpoint is in shape for the two graphs.
-pub fn in_shape(
-    old_order: usize,
-    old_labels: &[u8],
-    old_edges: &[u8],
-    new_order: usize,
-    new_labels: &[u8],
-    new_edges: &[u8],
+pub fn in_shape<'a>(
+    orders: Orders,
+    labels: Labels<'a>,
+    edges: Edges<'a>,
     checkpoint: Checkpoint,
 ) -> bool
-    requires { ⌜ SoundProblem (problem (graph «old_order» (now «old_labels») (now «old_edges»)) (graph «new_order» (now «new_labels») (now «new_edges»))) ⌝ }
+    requires { ⌜ SoundProblem (lent orders labels edges) ⌝ }
     requires { ⌜ (length (checkpoint .path) ≡ 64) × (length (checkpoint .incumbent) ≡ 64) ⌝ }
-    ensures { λ r. ⌜ r ≡ inShape (problem (graph «old_order» (now («old_labels» .entry)) (now («old_edges» .entry))) (graph «new_order» (now («new_labels» .entry)) (now («new_edges» .entry)))) checkpoint ⌝ }
+    ensures { λ r. ⌜ r ≡ inShape (lent orders (labels .entry) (edges .entry)) checkpoint ⌝ }
 {
-    if old_order < checkpoint.depth {
+    let order = orders[0];
+    if order < checkpoint.depth {
         return false;
     }
-    if !path_fits(
-        old_order,
-        old_labels,
-        old_edges,
-        new_order,
-        new_labels,
-        new_edges,
-        checkpoint,
-    ) {
+    if !path_fits(orders, labels, edges, checkpoint) {
         return false;
     }
-    if !held_fits(
-        old_order,
-        old_labels,
-        old_edges,
-        new_order,
-        new_labels,
-        new_edges,
-        checkpoint,
-    ) {
+    if !incumbent_fits(orders, labels, edges, checkpoint) {
         return false;
     }
     if !steps_fit(checkpoint) {
         return false;
     }
-    rest_fits(old_order, checkpoint)
+    rest_fits(order, checkpoint)
 }

@@ -10,8 +10,8 @@ use Rattle.mapping.proofs.Order.{before-asymmetric}
 use Rattle.search_tree.specs.Best.{Best}
 
 -- Where the same mappings count, the same is best.
-pub best-same : {Good Other : List ℕ → Type 0} {minimum : ℕ} {held : Option (List ℕ)} → ((l : List ℕ) → Good l ↔ Other l)
-    → Best Good minimum held → Best Other minimum held
+pub best-same : {Good Other : List ℕ → Type 0} {minimum : ℕ} {incumbent : Option (List ℕ)} → ((l : List ℕ) → Good l ↔ Other l)
+    → Best Good minimum incumbent → Best Other minimum incumbent
 best-same same b = record {
   none-reaches = λ e l o. b .none-reaches e l (same l .1 o);
   good = λ h e. same h .0 (b .good h e);

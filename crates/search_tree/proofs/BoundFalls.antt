@@ -8,7 +8,7 @@ use native.Mathlib.Omega.{arith}
 use lib.Dec.{leb}
 use lib.ListN.{length}
 use borrow.Author.Tests.{leb-true, leb-false, le-leb, lt-leb}
-use Rattle.graph.proofs.Below.{sumBelow-same}
+use Rattle.bounded.proofs.Below.{sumBelow-same}
 use Rattle.mapping.specs.Common.{unmapped, size}
 use Rattle.mapping.proofs.Size.{counted, counted-max, size-nil, size-cons, size-append}
 use Rattle.search_tree.specs.Rules.{Rules}
@@ -18,23 +18,23 @@ use Rattle.search_tree.proofs.Candidates.{length-extend, candidate-shor
 use Rattle.search_tree.proofs.Children.{Choice, child-is}
 
 -- what row r adds to the upper bound: 1 where it is undecided and has a candidate
-abbrev hopeful : Rules → List ℕ → ℕ → ℕ
-hopeful R path r = cond (leb (length path) r && nonEmpty (candidates R path r)) 1 0
+abbrev rowBound : Rules → List ℕ → ℕ → ℕ
+rowBound R path r = cond (leb (length path) r && nonEmpty (candidates R path r)) 1 0
 
 module _ (R : Rules) (path : List ℕ) where
   -- At a last node the upper bound is the size.
   pub bound-last : isLast R path ≡ true → upperBound R path ≡ size path
   unfolding upperBound
-  bound-last last = omega (arith, sumBelow-agree (R .rows) (hopeful R path) (λ r. 0) decided, sumBelow-same (R .rows) 0)
+  bound-last last = omega (arith, sumBelow-agree (R .rows) (rowBound R path) (λ r. 0) decided, sumBelow-same (R .rows) 0)
     where
-      decided : (r : ℕ) → r < R .rows → hopeful R path r ≡ 0
+      decided : (r : ℕ) → r < R .rows → rowBound R path r ≡ 0
       decided r h = rw (lt-leb (length path) r (omega (arith, leb-true (R .rows) (length path) last)))
 
   -- no row adds more at the longer path
-  hopeful-shorter : (v r : ℕ) → hopeful R (extend path v) r ≤ hopeful R path r
-  hopeful-shorter v r = go (leb (length (extend path v)) r) (nonEmpty (candidates R (extend path v) r)) refl refl
+  rowBound-shorter : (v r : ℕ) → rowBound R (extend path v) r ≤ rowBound R path r
+  rowBound-shorter v r = go (leb (length (extend path v)) r) (nonEmpty (candidates R (extend path v) r)) refl refl
     where
-      go : (a b : Bool) → leb (length (extend path v)) r ≡ a → nonEmpty (candidates R (extend path v) r) ≡ b → cond (a && b) 1 0 ≤ hopeful R path r
+      go : (a b : Bool) → leb (length (extend path v)) r ≡ a → nonEmpty (candidates R (extend path v) r) ≡ b → cond (a && b) 1 0 ≤ rowBound R path r
       go false b ea eb = omega arith
       go true false ea eb = omega arith
       go true true ea eb =
@@ -44,8 +44,8 @@ module _ (R : Rules) (path : List ℕ) where
           rw (undecided, some) (omega arith)
 
   -- the row that the longer path decides adds nothing there; what its entry adds to the size, it added to the upper bound before
-  hopeful-decided : (v : ℕ) → Choice R path v → hopeful R (extend path v) (length path) + counted v ≤ hopeful R path (length path)
-  hopeful-decided v choice =
+  rowBound-decided : (v : ℕ) → Choice R path v → rowBound R (extend path v) (length path) + counted v ≤ rowBound R path (length path)
+  rowBound-decided v choice =
       rw (lt-leb (length (extend path v)) (length path) (omega (arith, length-extend path v)))
       (⊎-elim (λ (e : v ≡ unmapped). rw e (omega arith))
       (λ e. rw (le-leb (length path) (length path) (omega arith), nonEmpty-candidates R path (length path) .1 (v, e)) (omega (arith, counted-max v)))
@@ -58,6 +58,6 @@ module _ (R : Rules) (path : List ℕ) where
       let child = child-is R path .0 m in
       let v = child .value in
       let row = leb-false (R .rows) (length path) inner in
-      let less = sumBelow-less (R .rows) (hopeful R (extend path v)) (hopeful R path) (length path) (counted v) row
-      (λ r h. hopeful-shorter v r) (hopeful-decided v (child .choice)) in
+      let less = sumBelow-less (R .rows) (rowBound R (extend path v)) (rowBound R path) (length path) (counted v) row
+      (λ r h. rowBound-shorter v r) (rowBound-decided v (child .choice)) in
       rw (child .extended) (omega (arith, size-append path (v ∷ []), size-cons v [], size-nil))

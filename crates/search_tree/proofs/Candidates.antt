@@ -9,8 +9,8 @@ use lib.Dec.{ltb, eqb}
 use lib.ListN.{length, getD, length-append, List·getD-append}
 use lib.Seq.{getD-append-seam}
 use borrow.Author.Tests.{ltb-true}
-use Rattle.graph.specs.Below.{allBelow}
-use Rattle.graph.proofs.AllBelow.{allBelow-true}
+use Rattle.bounded.specs.Below.{allBelow}
+use Rattle.bounded.proofs.AllBelow.{allBelow-true}
 use Rattle.mapping.specs.Common.{unmapped}
 use Rattle.search_tree.specs.Rules.{Rules}
 use Rattle.search_tree.specs.Node.{fits, candidate, candidates, nonEmpty, extend}

@@ -5,33 +5,33 @@ use mathlib.Core.Option.{Option}
 use mathlib.Core.List.{List, [], _∷_}
 use Prim.Native.Nat.{ℕ, _≤_, max}
 use native.Mathlib.Omega.{arith}
-use Rattle.branch_bound.specs.Search as Search
+use Rattle.branch_bound.specs.Search as BranchBound
 use Rattle.mapping.specs.Common.{unmapped}
-use Rattle.search_tree.specs.Rules.{Rules}
+use Rattle.search_tree.specs.Search.{Search}
 use Rattle.search_tree.specs.Node.{openNodes}
-use Rattle.search_tree.specs.Trees.{tree}
+use Rattle.search_tree.specs.Trees.{tree, openState}
 use Rattle.search_tree.specs.Walk.{State, cutoff, after}
 use Rattle.search_tree.specs.Ceiling.{topBound, ceiling}
-use Rattle.search_tree.proofs.Simulation.{search, after-search}
+use Rattle.search_tree.proofs.Simulation.{after-search}
 
-module _ (R : Rules) where
-  topBound-search : (nodes : List (List ℕ)) → topBound R nodes ≡ Search.topBound (tree R) nodes
-  unfolding topBound Search.topBound
+module _ (S : Search) where
+  topBound-search : (nodes : List (List ℕ)) → topBound (S .rules) nodes ≡ BranchBound.topBound (tree S) nodes
+  unfolding topBound BranchBound.topBound
   topBound-search [] = omega arith
   topBound-search (path ∷ rest) = omega (arith, topBound-search rest)
 
   -- A state's ceiling is that of branch and bound's state.
-  pub ceiling-search : (minimum : ℕ) (s : State) → ceiling R minimum s ≡ Search.ceiling (tree R) minimum (search R s)
-  unfolding ceiling Search.ceiling Search.topBound
-  ceiling-search minimum s = go (s .finished) (openNodes R (s .path)) (s .held)
+  pub ceiling-search : (minimum : ℕ) (s : State) → ceiling (S .rules) minimum s ≡ BranchBound.ceiling (tree S) minimum (openState S s)
+  unfolding ceiling BranchBound.ceiling BranchBound.topBound
+  ceiling-search minimum s = go (s .finished) (openNodes (S .rules) (s .path)) (s .incumbent)
     where
-      go : (finished : Bool) (nodes : List (List ℕ)) (held : Option (List ℕ))
-          → cond finished (cutoff minimum held) (max (cutoff minimum held) (topBound R nodes))
-          ≡ max (Search.cutoff (tree R) minimum held) (Search.topBound (tree R) (cond finished [] nodes))
-      go true nodes held = omega arith
-      go false nodes held = omega (arith, topBound-search nodes)
+      go : (finished : Bool) (nodes : List (List ℕ)) (incumbent : Option (List ℕ))
+          → cond finished (cutoff minimum incumbent) (max (cutoff minimum incumbent) (topBound (S .rules) nodes))
+          ≡ max (BranchBound.cutoff (tree S) minimum incumbent) (BranchBound.topBound (tree S) (cond finished [] nodes))
+      go true nodes incumbent = omega arith
+      go false nodes incumbent = omega (arith, topBound-search nodes)
 
   -- The walk's ceiling after k visits is branch and bound's after k steps.
-  pub ceiling-after : R .values ≤ unmapped → (minimum k : ℕ)
-      → ceiling R minimum (after R minimum k) ≡ Search.ceiling (tree R) minimum (Search.after (tree R) minimum [] k)
-  ceiling-after few minimum k = ceiling-search minimum (after R minimum k) ∙ ap (Search.ceiling (tree R) minimum) (after-search R few minimum k)
+  pub ceiling-after : S .rules .values ≤ unmapped → (minimum k : ℕ)
+      → ceiling (S .rules) minimum (after S minimum k) ≡ BranchBound.ceiling (tree S) minimum (BranchBound.after (tree S) minimum [] k)
+  ceiling-after few minimum k = ceiling-search minimum (after S minimum k) ∙ ap (BranchBound.ceiling (tree S) minimum) (after-search S few minimum k)

@@ -26,6 +26,7 @@ use lib.Seq.{append-snoc}
 use Rattle.branch_bound.specs.Tree.{Under, here, below}
 use Rattle.mapping.specs.Common.{unmapped}
 use Rattle.search_tree.specs.Rules.{Rules}
+use Rattle.search_tree.specs.Search.{Search}
 use Rattle.search_tree.specs.Node.{candidate, candidates, choices, extend, isLast, children}
 use Rattle.search_tree.specs.Trees.{tree}
 use Rattle.search_tree.proofs.Candidates.{mem-candidates}
@@ -76,9 +77,9 @@ module _ (R : Rules) (path : List ℕ) where
       back h = rw (children-inner (h .inner)) (Memᴰ·cast (h .extended) (Memᴰ·map (extend path) (mem-choices .1 (h .choice))))
 
 -- Every solution under a node begins with the node's path.
-pub under-prefix : (R : Rules) {n s : List ℕ} → Under (tree R) n s → (rest : List ℕ) × (s ≡ n ++ rest)
-under-prefix R (here {n = n} e) = ([], sym (append-nil n))
-under-prefix R (below {n = n} {c = c} e m u) =
-    let child = child-is R n .0 m in
-    let later = under-prefix R u in
+pub under-prefix : (S : Search) {n s : List ℕ} → Under (tree S) n s → (rest : List ℕ) × (s ≡ n ++ rest)
+under-prefix S (here {n = n} e) = ([], sym (append-nil n))
+under-prefix S (below {n = n} {c = c} e m u) =
+    let child = child-is (S .rules) n .0 m in
+    let later = under-prefix S u in
     (child .value ∷ later .0, later .1 ∙ ap (λ (l : List ℕ). l ++ later .0) (child .extended) ∙ append-snoc n (child .value) (later .0))

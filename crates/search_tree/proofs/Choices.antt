@@ -21,7 +21,7 @@ use native.Mathlib.Omega.{arith}
 use lib.Dec.{ltb}
 use lib.ListN.{length}
 use borrow.Author.Tests.{ltb-true, ltb-false, lt-ltb, le-ltb}
-use Rattle.graph.specs.Below.{runBelow}
+use Rattle.bounded.specs.Below.{runBelow}
 use Rattle.mapping.specs.Common.{unmapped}
 use Rattle.search_tree.specs.Rules.{Rules}
 use Rattle.search_tree.specs.Node.{candidate, listIf, candidates, choices, choicesAfter}

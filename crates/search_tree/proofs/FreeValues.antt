@@ -8,9 +8,9 @@ use native.Mathlib.Omega.{arith}
 use lib.Dec.{eqb}
 use lib.ListN.{length, getD}
 use borrow.Author.Tests.{eqb-true, ne-eqb}
-use Rattle.graph.specs.Below.{allBelow}
-use Rattle.graph.proofs.AllBelow.{true-allBelow}
-use Rattle.graph.proofs.Below.{sumBelow-le, sumBelow-same}
+use Rattle.bounded.specs.Below.{allBelow}
+use Rattle.bounded.proofs.AllBelow.{true-allBelow}
+use Rattle.bounded.proofs.Below.{sumBelow-le, sumBelow-same}
 use Rattle.mapping.specs.Common.{unmapped}
 use Rattle.search_tree.specs.Rules.{Rules, Regular}
 use Rattle.search_tree.specs.Node.{fits, candidate, candidates, extend}

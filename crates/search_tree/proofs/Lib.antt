@@ -4,7 +4,6 @@ pub mod Candidates
 pub mod Ceiling
 pub mod Children
 pub mod Choices
-pub mod Examples
 pub mod FreeValues
 pub mod LastNodes
 pub mod LawfulTree

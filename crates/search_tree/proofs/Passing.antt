@@ -23,8 +23,8 @@ use native.Mathlib.Omega.{arith}
 use lib.Dec.{eqb}
 use lib.ListN.{length}
 use borrow.Author.Tests.{eq-eqb, ne-eqb}
-use Rattle.graph.specs.Below.{sumBelow, runBelow}
-use Rattle.graph.proofs.Below.{length-runBelow}
+use Rattle.bounded.specs.Below.{sumBelow, runBelow}
+use Rattle.bounded.proofs.Below.{length-runBelow}
 use Rattle.search_tree.specs.Node.{listIf}
 use Rattle.search_tree.proofs.Sums.{sumBelow-agree}
 

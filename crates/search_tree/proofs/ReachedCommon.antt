@@ -10,14 +10,15 @@ use lib.Dec.{ltb, eqb}
 use lib.ListN.{length, getD, take, replicate, length-append, length-replicate, getD-replicate, List·getD-append}
 use lib.Seq.{length-take-le, getD-take, getD-append-add}
 use borrow.Author.Tests.{lt-ltb, eq-eqb, eqb-true}
-use Rattle.branch_bound.specs.Tree.{Under}
-use Rattle.graph.specs.Below.{allBelow}
-use Rattle.graph.proofs.AllBelow.{true-allBelow}
-use Rattle.mapping.specs.Problem.{Problem, SoundProblem, allowed, consistent}
+use Rattle.bounded.specs.Below.{allBelow}
+use Rattle.bounded.proofs.AllBelow.{true-allBelow}
+use Rattle.problem.specs.Problem.{Problem, SoundProblem, allowed, consistent}
 use Rattle.mapping.specs.Common.{unmapped, Common, Pairwise}
-use Rattle.mapping.proofs.Consistent.{allowed-facts}
+use Rattle.problem.proofs.Consistent.{allowed-facts}
 use Rattle.mapping.proofs.Pairwise.{common-pairwise, pairwise-common}
+use Rattle.branch_bound.specs.Tree.{Under}
 use Rattle.search_tree.specs.Rules.{Rules, rulesOf}
+use Rattle.search_tree.specs.Search.{searchOf}
 use Rattle.search_tree.specs.Node.{fits, candidate}
 use Rattle.search_tree.specs.Trees.{tree, Reached, filled}
 use Rattle.search_tree.proofs.Candidates.{candidate-value, candidate-fits}
@@ -163,8 +164,8 @@ module _ (P : Problem) (sound : SoundProblem P) where
       same e = let none : P .old .order - length path ≡ 0 = omega arith in rw (none, append-nil)
 
   -- The last nodes of the tree are the common subgraphs.
-  pub last-common : (l : List ℕ) → Under (tree (rulesOf P)) [] l ↔ Common P l
+  pub last-common : (l : List ℕ) → Under (tree (searchOf P)) [] l ↔ Common P l
   last-common l = (
-    λ u. full-common l .0 (under-root (rulesOf P) l .0 u),
-    λ c. under-root (rulesOf P) l .1 (full-common l .1 c),
+    λ u. full-common l .0 (under-root (searchOf P) l .0 u),
+    λ c. under-root (searchOf P) l .1 (full-common l .1 c),
   )

@@ -8,7 +8,8 @@ use lib.Seq.{append-snoc}
 use Rattle.branch_bound.specs.Tree.{Under}
 use Rattle.mapping.specs.Order.{Before}
 use Rattle.mapping.proofs.Order.{before-difference}
-use Rattle.search_tree.specs.Rules.{Rules, Regular}
+use Rattle.search_tree.specs.Rules.{Regular}
+use Rattle.search_tree.specs.Search.{Search}
 use Rattle.search_tree.specs.Node.{choices, extend, isLast, children}
 use Rattle.search_tree.specs.Trees.{tree}
 use Rattle.search_tree.proofs.Passing.{Rising}
@@ -26,14 +27,14 @@ two-rising path (v ∷ l) r [] c q e d m =
     (v, found .0, cc, sym (found .2), r .0 (found .0) (found .1))
 two-rising path (v ∷ l) r (x ∷ p) c q e d m = two-rising path l (r .1) p c q (cc) d m
 
-module _ (R : Rules) (regular : Regular R) where
+module _ (S : Search) (regular : Regular (S .rules)) where
   -- Every solution under a child comes before every solution under a later child.
-  pub siblings-in-order : (n : List ℕ) (p : List (List ℕ)) (c : List ℕ) (q : List (List ℕ)) → isLast R n ≡ false → children R n ≡ p ++ (c ∷ q)
-      → (d : List ℕ) → List·Memᴰ d q → (s t : List ℕ) → Under (tree R) c s → Under (tree R) d t → Before s t
+  pub siblings-in-order : (n : List ℕ) (p : List (List ℕ)) (c : List ℕ) (q : List (List ℕ)) → isLast (S .rules) n ≡ false → children (S .rules) n ≡ p ++ (c ∷ q)
+      → (d : List ℕ) → List·Memᴰ d q → (s t : List ℕ) → Under (tree S) c s → Under (tree S) d t → Before s t
   siblings-in-order n p c q inner e d m s t us ut =
-      let two = two-rising n (choices R n) (rising-choices R n (regular .few)) p c q (sym (children-inner R n inner) ∙ e) d m in
+      let two = two-rising n (choices (S .rules) n) (rising-choices (S .rules) n (regular .few)) p c q (sym (children-inner (S .rules) n inner) ∙ e) d m in
       rw (begins s c (two .0) us (two .2), begins t d (two .1) ut (two .3)) (before-difference n (two .0) (two .1) _ _ (two .4))
     where
       -- a solution under a child has the child's value at the place behind the parent's path
-      begins : (s c : List ℕ) (v : ℕ) (u : Under (tree R) c s) → c ≡ extend n v → s ≡ n ++ (v ∷ under-prefix R u .0)
-      begins s c v u e = under-prefix R u .1 ∙ ap (λ (l : List ℕ). l ++ under-prefix R u .0) e ∙ append-snoc n v (under-prefix R u .0)
+      begins : (s c : List ℕ) (v : ℕ) (u : Under (tree S) c s) → c ≡ extend n v → s ≡ n ++ (v ∷ under-prefix S u .0)
+      begins s c v u e = under-prefix S u .1 ∙ ap (λ (l : List ℕ). l ++ under-prefix S u .0) e ∙ append-snoc n v (under-prefix S u .0)

@@ -7,79 +7,79 @@ use Prim.Native.Nat.{ℕ, zero, suc, _+_, _≤_}
 use native.Mathlib.Nat.{le-refl}
 use lib.Dec.{ltb}
 use lib.ListN.{length}
-use Rattle.branch_bound.specs.Search as Search
+use Rattle.branch_bound.specs.Search as BranchBound
 use Rattle.mapping.specs.Common.{unmapped}
-use Rattle.search_tree.specs.Rules.{Rules}
+use Rattle.search_tree.specs.Search.{Search}
 use Rattle.search_tree.specs.Node.{upperBound, isLast, children, laterSiblings, openNodes}
-use Rattle.search_tree.specs.Trees.{tree}
+use Rattle.search_tree.specs.Trees.{tree, openState}
 use Rattle.search_tree.specs.Walk.{State, cutoff, goOn, retreat, visitPath, visit, after}
 use Rattle.search_tree.proofs.OpenNodes.{siblings-open, children-some, children-open}
 
-module _ (R : Rules) where
-  -- the walk's state as branch and bound sees it: the open nodes, none once finished, and the incumbent
-  abbrev pub search : State → Search.State (tree R)
-  search s = Search.state (tree R) (cond (s .finished) [] (openNodes R (s .path))) (s .held)
-
+module _ (S : Search) where
   -- Both have the same cutoff.
-  pub cutoff-same : (minimum : ℕ) (held : Option (List ℕ)) → cutoff minimum held ≡ Search.cutoff (tree R) minimum held
-  cutoff-same minimum held = refl
+  pub cutoff-same : (minimum : ℕ) (incumbent : Option (List ℕ)) → cutoff minimum incumbent ≡ BranchBound.cutoff (tree S) minimum incumbent
+  cutoff-same minimum incumbent = refl
 
-  module _ (few : R .values ≤ unmapped) where
+  module _ (few : S .rules .values ≤ unmapped) where
     -- where the node is left, what stood behind it is open
-    retreat-search : (steps : ℕ) (path : List ℕ) (held : Option (List ℕ))
-        → search (retreat R steps path held) ≡ Search.state (tree R) (laterSiblings R path (length path)) held
-    retreat-search steps path held = go (laterSiblings R path (length path)) refl
+    retreat-search : (steps : ℕ) (path : List ℕ) (incumbent : Option (List ℕ))
+        → openState S (retreat (S .rules) steps path incumbent) ≡ BranchBound.state (tree S) (laterSiblings (S .rules) path (length path)) incumbent
+    retreat-search steps path incumbent = go (laterSiblings (S .rules) path (length path)) refl
       where
-        go : (nodes : List (List ℕ)) → laterSiblings R path (length path) ≡ nodes
-            → search (goOn steps held nodes) ≡ Search.state (tree R) nodes held
+        go : (nodes : List (List ℕ)) → laterSiblings (S .rules) path (length path) ≡ nodes
+            → openState S (goOn steps incumbent nodes) ≡ BranchBound.state (tree S) nodes incumbent
         go [] e = refl
         go (p ∷ rest) e =
-            ap (λ (nodes : List (List ℕ)). Search.state (tree R) nodes held)
-            (siblings-open R few path (length path) (le-refl (length path)) p rest e)
+            ap (λ (nodes : List (List ℕ)). BranchBound.state (tree S) nodes incumbent)
+            (siblings-open (S .rules) few path (length path) (le-refl (length path)) p rest e)
 
     -- where its children follow, they and what stood behind it are open
-    children-search : (steps : ℕ) (path : List ℕ) (held : Option (List ℕ)) → isLast R path ≡ false
-        → search (goOn steps held (children R path)) ≡ Search.state (tree R) (children R path ++ laterSiblings R path (length path)) held
-    children-search steps path held inner = go (children R path) refl
+    children-search : (steps : ℕ) (path : List ℕ) (incumbent : Option (List ℕ)) → isLast (S .rules) path ≡ false
+        → openState S (goOn steps incumbent (children (S .rules) path))
+        ≡ BranchBound.state (tree S) (children (S .rules) path ++ laterSiblings (S .rules) path (length path)) incumbent
+    children-search steps path incumbent inner = go (children (S .rules) path) refl
       where
-        go : (nodes : List (List ℕ)) → children R path ≡ nodes
-            → search (goOn steps held nodes) ≡ Search.state (tree R) (children R path ++ laterSiblings R path (length path)) held
-        go [] e = absurd (children-some R path inner e)
+        go : (nodes : List (List ℕ)) → children (S .rules) path ≡ nodes
+            → openState S (goOn steps incumbent nodes)
+            ≡ BranchBound.state (tree S) (children (S .rules) path ++ laterSiblings (S .rules) path (length path)) incumbent
+        go [] e = absurd (children-some (S .rules) path inner e)
         go (p ∷ rest) e =
-            ap (λ (nodes : List (List ℕ)). Search.state (tree R) nodes held)
-            (children-open R few path inner p rest e)
+            ap (λ (nodes : List (List ℕ)). BranchBound.state (tree S) nodes incumbent)
+            (children-open (S .rules) few path inner p rest e)
 
     -- whatever becomes of the visited node
-    visitPath-search : (minimum steps : ℕ) (path : List ℕ) (held : Option (List ℕ))
-        → search (visitPath R minimum steps path held) ≡ Search.visitNode (tree R) minimum held path (laterSiblings R path (length path))
+    visitPath-search : (minimum steps : ℕ) (path : List ℕ) (incumbent : Option (List ℕ))
+        → openState S (visitPath S minimum steps path incumbent)
+        ≡ BranchBound.visitNode (tree S) minimum incumbent path (laterSiblings (S .rules) path (length path))
     unfolding visitPath
-    visitPath-search minimum steps path held = go (ltb (upperBound R path) (cutoff minimum held)) (isLast R path) refl
+    visitPath-search minimum steps path incumbent = go (ltb (upperBound (S .rules) path) (cutoff minimum incumbent)) (isLast (S .rules) path) refl
       where
         rest : List (List ℕ)
-        rest = laterSiblings R path (length path)
+        rest = laterSiblings (S .rules) path (length path)
 
-        go : (low final : Bool) → isLast R path ≡ final
-            → search (cond low (retreat R steps path held)
-            (cond final (retreat R steps path (cond (R .admits path) (some path) held)) (goOn steps held (children R path))))
-            ≡ cond low (Search.state (tree R) rest held)
-            (cond final (Search.state (tree R) rest (cond (R .admits path) (some path) held)) (Search.state (tree R) (children R path ++ rest) held))
-        go true final e = retreat-search steps path held
-        go false true e = retreat-search steps path (cond (R .admits path) (some path) held)
-        go false false e = children-search steps path held e
+        go : (low final : Bool) → isLast (S .rules) path ≡ final
+            → openState S (cond low (retreat (S .rules) steps path incumbent)
+            (cond final (retreat (S .rules) steps path (cond (S .admits path) (some path) incumbent)) (goOn steps incumbent (children (S .rules) path))))
+            ≡ cond low (BranchBound.state (tree S) rest incumbent)
+            (cond final (BranchBound.state (tree S) rest (cond (S .admits path) (some path) incumbent))
+            (BranchBound.state (tree S) (children (S .rules) path ++ rest) incumbent))
+        go true final e = retreat-search steps path incumbent
+        go false true e = retreat-search steps path (cond (S .admits path) (some path) incumbent)
+        go false false e = children-search steps path incumbent e
 
     -- A visit of the walk is a step of branch and bound.
-    pub visit-step : (minimum : ℕ) (s : State) → search (visit R minimum s) ≡ Search.step (tree R) minimum (search s)
+    pub visit-step : (minimum : ℕ) (s : State) → openState S (visit S minimum s) ≡ BranchBound.step (tree S) minimum (openState S s)
     unfolding visit openNodes
-    visit-step minimum s = go (s .steps) (s .path) (s .finished) (s .held)
+    visit-step minimum s = go (s .steps) (s .path) (s .finished) (s .incumbent)
       where
-        go : (steps : ℕ) (path : List ℕ) (finished : Bool) (held : Option (List ℕ))
-            → search (visit R minimum (record { steps = steps; path = path; finished = finished; held = held }))
-            ≡ Search.step (tree R) minimum (search (record { steps = steps; path = path; finished = finished; held = held }))
-        go steps path true held = refl
-        go steps path false held = visitPath-search minimum (steps + 1) path held
+        go : (steps : ℕ) (path : List ℕ) (finished : Bool) (incumbent : Option (List ℕ))
+            → openState S (visit S minimum (record { steps = steps; path = path; finished = finished; incumbent = incumbent }))
+            ≡ BranchBound.step (tree S) minimum (openState S (record { steps = steps; path = path; finished = finished; incumbent = incumbent }))
+        go steps path true incumbent = refl
+        go steps path false incumbent = visitPath-search minimum (steps + 1) path incumbent
 
     -- The walk after k visits is branch and bound after k steps from the root.
-    pub after-search : (minimum k : ℕ) → search (after R minimum k) ≡ Search.after (tree R) minimum [] k
-    unfolding after Search.after openNodes laterSiblings
+    pub after-search : (minimum k : ℕ) → openState S (after S minimum k) ≡ BranchBound.after (tree S) minimum [] k
+    unfolding after BranchBound.after openNodes laterSiblings
     after-search minimum zero = refl
-    after-search minimum (suc k) = visit-step minimum (after R minimum k) ∙ ap (Search.step (tree R) minimum) (after-search minimum k)
+    after-search minimum (suc k) = visit-step minimum (after S minimum k) ∙ ap (BranchBound.step (tree S) minimum) (after-search minimum k)

@@ -5,8 +5,8 @@ use mathlib.Core.Bool.{Bool, _&&_}
 use Prim.Native.Nat.{ℕ, zero, suc, _+_, _≤_, _<_}
 use native.Mathlib.Nat.{not-suc-le-zero, le-of-suc-le-suc, le-refl, eq-or-lt-of-le}
 use native.Mathlib.Omega.{arith}
-use Rattle.graph.specs.Below.{allBelow, sumBelow}
-use Rattle.graph.proofs.Below.{sumBelow-le}
+use Rattle.bounded.specs.Below.{allBelow, sumBelow}
+use Rattle.bounded.proofs.Below.{sumBelow-le}
 
 -- Two tests that agree below the bound agree as tests of all.
 pub allBelow-agree : (n : ℕ) (s t : ℕ → Bool) → ((k : ℕ) → k < n → s k ≡ t k) → allBelow n s ≡ allBelow n t

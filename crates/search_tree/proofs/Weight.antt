@@ -10,6 +10,7 @@ use borrow.Author.Tests.{leb-false}
 use Rattle.branch_bound.specs.Tree.{weights}
 use Rattle.mapping.specs.Common.{unmapped}
 use Rattle.search_tree.specs.Rules.{Rules, Regular}
+use Rattle.search_tree.specs.Search.{Search}
 use Rattle.search_tree.specs.Node.{candidate, candidates, choices, extend, isLast, children}
 use Rattle.search_tree.specs.StepLimit.{stepLimit}
 use Rattle.search_tree.specs.Trees.{tree}
@@ -38,46 +39,46 @@ unfolding weight
 weight-root R = ap₂ stepLimit (free-root R) (omega arith)
 
 -- the weights of longer paths together, where all but the last weigh b
-weights-choices : (R : Rules) (path : List ℕ) (b : ℕ) (l : List ℕ) (w : ℕ) → ((v : ℕ) → List·Memᴰ v l → weight R (extend path v) ≡ b)
-    → weights (tree R) (weight R) (map (extend path) (l ++ (w ∷ []))) ≡ length l * b + weight R (extend path w)
+weights-choices : (S : Search) (path : List ℕ) (b : ℕ) (l : List ℕ) (w : ℕ) → ((v : ℕ) → List·Memᴰ v l → weight (S .rules) (extend path v) ≡ b)
+    → weights (tree S) (weight (S .rules)) (map (extend path) (l ++ (w ∷ []))) ≡ length l * b + weight (S .rules) (extend path w)
 unfolding weights
-weights-choices R path b [] w each = omega (arith, zero-mul b)
-weights-choices R path b (v ∷ l) w each =
-    omega (arith, each v (List·Memᴰ·head refl), weights-choices R path b l w (λ u m. each u (List·Memᴰ·tail m)), suc-mul (length l) b)
+weights-choices S path b [] w each = omega (arith, zero-mul b)
+weights-choices S path b (v ∷ l) w each =
+    omega (arith, each v (List·Memᴰ·head refl), weights-choices S path b l w (λ u m. each u (List·Memᴰ·tail m)), suc-mul (length l) b)
 
-module _ (R : Rules) (regular : Regular R) (path : List ℕ) where
+module _ (S : Search) (regular : Regular (S .rules)) (path : List ℕ) where
   -- 02's m
   free : ℕ
-  free = freeValues R path
+  free = freeValues (S .rules) path
 
   -- the rows that are undecided at a child: 02's n - 1
   undecided : ℕ
-  undecided = R .rows - suc (length path)
+  undecided = S .rules .rows - suc (length path)
 
   -- a child that takes a candidate: V(m - 1, n - 1)
-  weight-taken : (v : ℕ) → candidate R path (length path) v ≡ true → weight R (extend path v) ≡ stepLimit (free - 1) undecided
+  weight-taken : (v : ℕ) → candidate (S .rules) path (length path) v ≡ true → weight (S .rules) (extend path v) ≡ stepLimit (free - 1) undecided
   unfolding weight free undecided
-  weight-taken v e = ap₂ stepLimit (omega (arith, free-taken R regular path (length path) v e)) (rw length-extend)
+  weight-taken v e = ap₂ stepLimit (omega (arith, free-taken (S .rules) regular path (length path) v e)) (rw length-extend)
 
   -- the child that leaves its row out: V(m, n - 1)
-  weight-left-out : weight R (extend path unmapped) ≡ stepLimit free undecided
+  weight-left-out : weight (S .rules) (extend path unmapped) ≡ stepLimit free undecided
   unfolding weight free undecided
-  weight-left-out = ap₂ stepLimit (free-left-out R regular path) (rw length-extend)
+  weight-left-out = ap₂ stepLimit (free-left-out (S .rules) regular path) (rw length-extend)
 
   -- the children together
-  weights-children : isLast R path ≡ false
-      → weights (tree R) (weight R) (children R path)
-      ≡ length (candidates R path (length path)) * stepLimit (free - 1) undecided + stepLimit free undecided
+  weights-children : isLast (S .rules) path ≡ false
+      → weights (tree S) (weight (S .rules)) (children (S .rules) path)
+      ≡ length (candidates (S .rules) path (length path)) * stepLimit (free - 1) undecided + stepLimit free undecided
   unfolding choices
   weights-children inner =
-      rw (children-inner R path inner, ← weight-left-out)
-      (weights-choices R path (stepLimit (free - 1) undecided) (candidates R path (length path)) unmapped
-      (λ v m. weight-taken v (mem-candidates R path (length path) .0 m)))
+      rw (children-inner (S .rules) path inner, ← weight-left-out)
+      (weights-choices S path (stepLimit (free - 1) undecided) (candidates (S .rules) path (length path)) unmapped
+      (λ v m. weight-taken v (mem-candidates (S .rules) path (length path) .0 m)))
 
   -- One visit and the children's weights are within the node's weight.
-  pub weight-falls : isLast R path ≡ false → 1 + weights (tree R) (weight R) (children R path) ≤ weight R path
+  pub weight-falls : isLast (S .rules) path ≡ false → 1 + weights (tree S) (weight (S .rules)) (children (S .rules) path) ≤ weight (S .rules) path
   unfolding weight free undecided stepLimit
   weight-falls inner =
-      let one-more : R .rows - length path ≡ suc undecided = omega (arith, leb-false (R .rows) (length path) inner) in
-      let few = mul-le-mul-right (stepLimit (free - 1) undecided) (candidates-free R regular path (length path)) in
+      let one-more : S .rules .rows - length path ≡ suc undecided = omega (arith, leb-false (S .rules .rows) (length path) inner) in
+      let few = mul-le-mul-right (stepLimit (free - 1) undecided) (candidates-free (S .rules) regular path (length path)) in
       rw one-more (omega (arith, weights-children inner))

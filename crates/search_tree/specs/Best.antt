@@ -9,10 +9,10 @@ use Rattle.mapping.specs.Common.{size}
 use Rattle.mapping.specs.Order.{Before}
 
 -- `Good` says which mappings count
-pub record Best (Good : List ℕ → Type 0) (minimum : ℕ) (held : Option (List ℕ)) : Type 0 where
+pub record Best (Good : List ℕ → Type 0) (minimum : ℕ) (incumbent : Option (List ℕ)) : Type 0 where
   -- nothing is held only where no mapping reaches the minimum
-  pub none-reaches : held ≡ none → (l : List ℕ) → Good l → size l < minimum
-  pub good : (h : List ℕ) → held ≡ some h → Good h
-  pub reaches : (h : List ℕ) → held ≡ some h → minimum ≤ size h
-  pub largest : (h : List ℕ) → held ≡ some h → (l : List ℕ) → Good l → size l ≤ size h
-  pub first : (h : List ℕ) → held ≡ some h → (l : List ℕ) → Good l → size l ≡ size h → (l ≡ h) ⊎ Before h l
+  pub none-reaches : incumbent ≡ none → (l : List ℕ) → Good l → size l < minimum
+  pub good : (h : List ℕ) → incumbent ≡ some h → Good h
+  pub reaches : (h : List ℕ) → incumbent ≡ some h → minimum ≤ size h
+  pub largest : (h : List ℕ) → incumbent ≡ some h → (l : List ℕ) → Good l → size l ≤ size h
+  pub first : (h : List ℕ) → incumbent ≡ some h → (l : List ℕ) → Good l → size l ≡ size h → (l ≡ h) ⊎ Before h l

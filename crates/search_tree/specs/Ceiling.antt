@@ -13,4 +13,4 @@ topBound R (path ∷ rest) = max (1 + upperBound R path) (topBound R rest)
 
 unfoldable pub ceiling : Rules → ℕ → State → ℕ
 ceiling R minimum s =
-    cond (s .finished) (cutoff minimum (s .held)) (max (cutoff minimum (s .held)) (topBound R (openNodes R (s .path))))
+    cond (s .finished) (cutoff minimum (s .incumbent)) (max (cutoff minimum (s .incumbent)) (topBound R (openNodes R (s .path))))

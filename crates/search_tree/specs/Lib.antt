@@ -1,7 +1,9 @@
 pub mod Rules
+pub mod Search
 pub mod Node
 pub mod Walk
 pub mod Ceiling
 pub mod StepLimit
 pub mod Best
 pub mod Trees
+pub mod Shape

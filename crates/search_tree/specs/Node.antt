@@ -5,7 +5,7 @@ use mathlib.Core.List.{List, [], _∷_, _++_, map}
 use Prim.Native.Nat.{ℕ, zero, suc, _+_}
 use lib.Dec.{leb, ltb, eqb}
 use lib.ListN.{length, getD, take}
-use Rattle.graph.specs.Below.{allBelow, sumBelow, runBelow}
+use Rattle.bounded.specs.Below.{allBelow, sumBelow, runBelow}
 use Rattle.mapping.specs.Common.{unmapped, size}
 use Rattle.search_tree.specs.Rules.{Rules}
 

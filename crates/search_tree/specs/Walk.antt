@@ -8,6 +8,7 @@ use lib.Dec.{ltb}
 use lib.ListN.{length}
 use Rattle.mapping.specs.Common.{size}
 use Rattle.search_tree.specs.Rules.{Rules}
+use Rattle.search_tree.specs.Search.{Search}
 use Rattle.search_tree.specs.Node.{upperBound, isLast, children, laterSiblings}
 
 pub record State : Type 0 where
@@ -16,11 +17,11 @@ pub record State : Type 0 where
   -- the next node; [] once finished
   pub path : List ℕ
   pub finished : Bool
-  -- the incumbent; 01: the held matching
-  pub held : Option (List ℕ)
+  -- the best mapping so far; 01: the held matching
+  pub incumbent : Option (List ℕ)
 
 abbrev pub fresh : State
-fresh = record { steps = 0; path = []; finished = false; held = none }
+fresh = record { steps = 0; path = []; finished = false; incumbent = none }
 
 -- 01: target. "The target begins as the floor"; once something is held it is "its size + 1"
 abbrev pub cutoff : ℕ → Option (List ℕ) → ℕ
@@ -29,29 +30,29 @@ cutoff minimum (some l) = size l + 1
 
 -- the first of these nodes is next; "with none, the search is finished"
 abbrev pub goOn : ℕ → Option (List ℕ) → List (List ℕ) → State
-goOn steps held [] = record { steps = steps; path = []; finished = true; held = held }
-goOn steps held (path ∷ rest) = record { steps = steps; path = path; finished = false; held = held }
+goOn steps incumbent [] = record { steps = steps; path = []; finished = true; incumbent = incumbent }
+goOn steps incumbent (path ∷ rest) = record { steps = steps; path = path; finished = false; incumbent = incumbent }
 
 -- "the nearest later sibling of the node or of an ancestor"
 abbrev pub retreat : Rules → ℕ → List ℕ → Option (List ℕ) → State
-retreat R steps path held = goOn steps held (laterSiblings R path (length path))
+retreat R steps path incumbent = goOn steps incumbent (laterSiblings R path (length path))
 
 -- "Hope below target: the node is left. Else, at d = n: the path is held as the matching. Else its children follow."
-unfoldable pub visitPath : Rules → ℕ → ℕ → List ℕ → Option (List ℕ) → State
-visitPath R minimum steps path held =
-    cond (ltb (upperBound R path) (cutoff minimum held)) (retreat R steps path held)
-    (cond (isLast R path) (retreat R steps path (cond (R .admits path) (some path) held))
-    (goOn steps held (children R path)))
+unfoldable pub visitPath : Search → ℕ → ℕ → List ℕ → Option (List ℕ) → State
+visitPath S minimum steps path incumbent =
+    cond (ltb (upperBound (S .rules) path) (cutoff minimum incumbent)) (retreat (S .rules) steps path incumbent)
+    (cond (isLast (S .rules) path) (retreat (S .rules) steps path (cond (S .admits path) (some path) incumbent))
+    (goOn steps incumbent (children (S .rules) path)))
 
 -- "One visit is one step"; a finished search is unchanged
-unfoldable pub visit : Rules → ℕ → State → State
-visit R minimum s = cond (s .finished) s (visitPath R minimum (s .steps + 1) (s .path) (s .held))
+unfoldable pub visit : Search → ℕ → State → State
+visit S minimum s = cond (s .finished) s (visitPath S minimum (s .steps + 1) (s .path) (s .incumbent))
 
-unfoldable pub after : Rules → ℕ → ℕ → State
-after R minimum zero = fresh
-after R minimum (suc k) = visit R minimum (after R minimum k)
+unfoldable pub after : Search → ℕ → ℕ → State
+after S minimum zero = fresh
+after S minimum (suc k) = visit S minimum (after S minimum k)
 
 -- "The total is the number of visits until then": finished after t visits and after no fewer
-pub record IsTotal (R : Rules) (minimum t : ℕ) : Type 0 where
-  pub ended : (after R minimum t) .finished ≡ true
-  pub busy : (k : ℕ) → k < t → (after R minimum k) .finished ≡ false
+pub record IsTotal (S : Search) (minimum t : ℕ) : Type 0 where
+  pub ended : (after S minimum t) .finished ≡ true
+  pub busy : (k : ℕ) → k < t → (after S minimum k) .finished ≡ false

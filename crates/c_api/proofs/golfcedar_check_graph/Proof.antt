@@ -1,7 +1,7 @@
--- `golfcedar_check_graph` meets its contract: what the reading answers is told. Assumes nothing.
+-- `c_api::golfcedar_check_graph` meets its contract: the reply is to what the reading answers. Assumes nothing.
 use mathlib.Core.Path.{ap, _∙_}
-use Rattle.graph.specs.Reading.{Reading}
-use Rattle.c_api.specs.Told.{told}
+use Rattle.graph_reader.specs.Reading.{Reading}
+use Rattle.replies.specs.Reply.{replyOf}
 use Rattle.c_api.specs.Checks.{checkingGraph}
 use borrow.Author.Needs.{needs}
 use Rattle.c_api.proofs.golfcedar_check_graph.Statement.{statement}
@@ -21,9 +21,7 @@ of-read-requires c κs = search needs
 
 returns : tie.Need-returns
 unfolding checkingGraph
-returns c =
-    let r = c .before .before .before .read-graph in
-    c .of-read .ensures ∙ ap (λ (o : Reading). told (o .answer)) (r .ensures)
+returns c = c .of-read .ensures ∙ ap (λ (r : Reading). replyOf (r .answer)) (c .before .before .before .read-graph .ensures)
 
 pub golfcedar-check-graph-spec : {M : Type 1} → statement M
 golfcedar-check-graph-spec =

@@ -1,44 +1,52 @@
--- `golfcedar_check_mapping` meets its contract: the graphs are read, then the mapping is checked. Assumes nothing.
-use mathlib.Core.Path.{ap, _∙_}
-use Rattle.c_api.specs.Graphs.{GraphsRead}
-use Rattle.c_api.specs.Checks.{onGraphs, toldOutcome, checkingMapping}
-use Rattle.c_api.proofs.ReadTables.{graphs-refused, graphs-read}
+-- `c_api::golfcedar_check_mapping` meets its contract: the graphs are read, then the mapping is checked (`ReadArms`). Assumes nothing.
+use Rattle.problem_reader.proofs.ReadProblem.{problem-read, problem-refused}
+use Rattle.c_api.proofs.ReadArms.{check-refused, check-read}
 use borrow.Author.Needs.{needs}
 use Rattle.c_api.proofs.golfcedar_check_mapping.Statement.{statement}
 use Rattle.c_api.proofs.golfcedar_check_mapping.Tie as tie
 
-slice-aggregate-read-graphs : tie.Need-slice-aggregate-read-graphs
-slice-aggregate-read-graphs c = search needs
+-- the way back from what is known of the tables to the reading
+abbrev at-read : tie.After-new-edges2 → tie.After-read-problem
+at-read c = c .before .before .before .before
 
-slice-aggregate-read-graphs-2 : tie.Need-slice-aggregate-read-graphs-2
-slice-aggregate-read-graphs-2 c = search needs
+abbrev at-orders : tie.After-check-mapping → tie.After-old-order
+at-orders c = c .before .before .before .before .before .before
 
-slice-aggregate-read-graphs-3 : tie.Need-slice-aggregate-read-graphs-3
-slice-aggregate-read-graphs-3 c = search needs
+slice-aggregate-read-problem : tie.Need-slice-aggregate-read-problem
+slice-aggregate-read-problem c = search needs
 
-slice-aggregate-read-graphs-4 : tie.Need-slice-aggregate-read-graphs-4
-slice-aggregate-read-graphs-4 c = search needs
+slice-aggregate-read-problem-2 : tie.Need-slice-aggregate-read-problem-2
+slice-aggregate-read-problem-2 c = search needs
 
-read-graphs-requires : tie.Need-read-graphs-requires
-read-graphs-requires c κs = search needs
+slice-aggregate-read-problem-3 : tie.Need-slice-aggregate-read-problem-3
+slice-aggregate-read-problem-3 c = search needs
 
-enum-known-told : tie.Need-enum-known-told
-enum-known-told c = search needs
+slice-aggregate-read-problem-4 : tie.Need-slice-aggregate-read-problem-4
+slice-aggregate-read-problem-4 c = search needs
+
+read-problem-requires : tie.Need-read-problem-requires
+read-problem-requires c κs = search needs
+
+enum-known-refusal : tie.Need-enum-known-refusal
+enum-known-refusal c = search needs
+
+of-read-requires : tie.Need-of-read-requires
+of-read-requires c κs = search needs
 
 enum-known-old-order : tie.Need-enum-known-old-order
 enum-known-old-order c = search needs
 
-slice-aggregate-check-mapping : tie.Need-slice-aggregate-check-mapping
-slice-aggregate-check-mapping c = search needs
+slice-aggregate-t28 : tie.Need-slice-aggregate-t28
+slice-aggregate-t28 c = search needs
 
-slice-aggregate-check-mapping-2 : tie.Need-slice-aggregate-check-mapping-2
-slice-aggregate-check-mapping-2 c = search needs
+slice-aggregate-t30 : tie.Need-slice-aggregate-t30
+slice-aggregate-t30 c = search needs
 
-slice-aggregate-check-mapping-3 : tie.Need-slice-aggregate-check-mapping-3
-slice-aggregate-check-mapping-3 c = search needs
+slice-aggregate-t33 : tie.Need-slice-aggregate-t33
+slice-aggregate-t33 c = search needs
 
-slice-aggregate-check-mapping-4 : tie.Need-slice-aggregate-check-mapping-4
-slice-aggregate-check-mapping-4 c = search needs
+slice-aggregate-t35 : tie.Need-slice-aggregate-t35
+slice-aggregate-t35 c = search needs
 
 check-mapping-requires : tie.Need-check-mapping-requires
 check-mapping-requires c κs = search needs
@@ -47,36 +55,34 @@ of-mapping-requires : tie.Need-of-mapping-requires
 of-mapping-requires c κs = search needs
 
 returns : tie.Need-returns
-unfolding checkingMapping
 returns c =
-    let l = c .before .before .before .before .before .before .before .before .before .before .before .before .before .before .before .args .mapping .now in
-    let g = c .before .before .before .before .before .before .before .read-graphs in
-    ap (λ (r : GraphsRead). onGraphs r l) (graphs-refused (g .result) _ _ _ _ _ (g .ensures) _ (c .before .told .given .1))
+    let arm = c .before .before in
+    let g = at-read (arm .before .before) .read-problem in
+    check-refused _ _ _ _ _ (c .of-read .ensures) (problem-refused _ _ (g .result) _ _ _ _ (g .ensures) _ (arm .refusal .given .1))
 
 returns-2 : tie.Need-returns-2
-unfolding checkingMapping
 returns-2 c =
-    let l = c .before .before .before .before .before .before .before .before .before .before .before .before .before .before .before .before .before .before .before .before .before .args .mapping .now in
-    let g = c .before .before .before .before .before .before .before .before .before .before .before .before .before .read-graphs in
-    c .of-mapping .ensures
-    ∙ ap toldOutcome (c .before .check-mapping .ensures)
-    ∙ ap (λ (r : GraphsRead). onGraphs r l) (graphs-read (g .result) _ _ _ _ _ (g .ensures) _ _ (c .before .before .before .before .before .before .before .old-order .given .1))
+    let arm = at-orders (c .before) in
+    let g = at-read (arm .before .before) .read-problem in
+    check-read _ _ _ _ (problem-read _ _ (g .result) _ _ _ _ (g .ensures) _ _ (arm .old-order .given .1))
+    _ _ (c .of-mapping .ensures) (c .before .check-mapping .ensures)
 
 pub golfcedar-check-mapping-spec : {M : Type 1} → statement M
 golfcedar-check-mapping-spec =
     tie.close
     (tie.spec
-    slice-aggregate-read-graphs
-    slice-aggregate-read-graphs-2
-    slice-aggregate-read-graphs-3
-    slice-aggregate-read-graphs-4
-    read-graphs-requires
-    enum-known-told
+    slice-aggregate-read-problem
+    slice-aggregate-read-problem-2
+    slice-aggregate-read-problem-3
+    slice-aggregate-read-problem-4
+    read-problem-requires
+    enum-known-refusal
+    of-read-requires
     enum-known-old-order
-    slice-aggregate-check-mapping
-    slice-aggregate-check-mapping-2
-    slice-aggregate-check-mapping-3
-    slice-aggregate-check-mapping-4
+    slice-aggregate-t28
+    slice-aggregate-t30
+    slice-aggregate-t33
+    slice-aggregate-t35
     check-mapping-requires
     of-mapping-requires
     returns

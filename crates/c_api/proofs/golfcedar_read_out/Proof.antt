@@ -1,98 +1,99 @@
--- `golfcedar_read_out` meets its contract: the room is tested, the graphs are read, and the checkpoint is read out. Assumes nothing.
-use mathlib.Core.Path.{_≡_, ap, _∙_}
-use mathlib.Core.List.{List}
-use Prim.Native.Nat.{ℕ, _≤_}
-use lib.ListN.{length}
-use borrow.Author.Tests.{le-leb, lt-leb}
-use Rattle.c_api.specs.Graphs.{GraphsRead, readGraphs}
-use Rattle.c_api.specs.Calls.{readOn, readingOut}
-use Rattle.c_api.proofs.ReadTables.{graphs-refused, graphs-read}
+-- `c_api::golfcedar_read_out` meets its contract: the room is tested, the graphs are read, and the checkpoint is read out (`ReadArms`). Assumes nothing.
+use Rattle.problem_reader.proofs.ReadProblem.{problem-read, problem-refused}
+use Rattle.c_api.proofs.ReadArms.{read-out-short, read-out-refused, read-out-read}
 use borrow.Author.Needs.{needs}
 use Rattle.c_api.proofs.golfcedar_read_out.Statement.{statement}
 use Rattle.c_api.proofs.golfcedar_read_out.Tie as tie
 
-with-room : (old new bytes mapping : List ℕ) → 64 ≤ length mapping → readOn (readGraphs old new) bytes mapping ≡ readingOut old new bytes mapping
-unfolding readingOut
-with-room old new bytes mapping p = simp (le-leb _ _ p)
+-- the way back from what is known of the tables to the reading
+abbrev at-read : tie.After-new-edges2 → tie.After-read-problem
+at-read c = c .before .before .before .before
+
+abbrev at-room : tie.After-read-problem → tie.Else1
+at-room c = c .before .before .before .before .before
+
+abbrev at-orders : tie.After-read-out → tie.After-old-order
+at-orders c = c .before .before .before .before .before .before .before
 
 returns : tie.Need-returns
-unfolding readingOut
-returns c =
-    simp (lt-leb _ _ (c .if1 .taken))
+returns c = read-out-short _ _ _ _ (c .if1 .taken)
 
-slice-aggregate-read-graphs : tie.Need-slice-aggregate-read-graphs
-slice-aggregate-read-graphs c = search needs
+slice-aggregate-read-problem : tie.Need-slice-aggregate-read-problem
+slice-aggregate-read-problem c = search needs
 
-slice-aggregate-read-graphs-2 : tie.Need-slice-aggregate-read-graphs-2
-slice-aggregate-read-graphs-2 c = search needs
+slice-aggregate-read-problem-2 : tie.Need-slice-aggregate-read-problem-2
+slice-aggregate-read-problem-2 c = search needs
 
-slice-aggregate-read-graphs-3 : tie.Need-slice-aggregate-read-graphs-3
-slice-aggregate-read-graphs-3 c = search needs
+slice-aggregate-read-problem-3 : tie.Need-slice-aggregate-read-problem-3
+slice-aggregate-read-problem-3 c = search needs
 
-slice-aggregate-read-graphs-4 : tie.Need-slice-aggregate-read-graphs-4
-slice-aggregate-read-graphs-4 c = search needs
+slice-aggregate-read-problem-4 : tie.Need-slice-aggregate-read-problem-4
+slice-aggregate-read-problem-4 c = search needs
 
-read-graphs-requires : tie.Need-read-graphs-requires
-read-graphs-requires c κs = search needs
+read-problem-requires : tie.Need-read-problem-requires
+read-problem-requires c κs = search needs
 
-enum-known-told : tie.Need-enum-known-told
-enum-known-told c = search needs
+enum-known-refusal : tie.Need-enum-known-refusal
+enum-known-refusal c = search needs
+
+of-read-requires : tie.Need-of-read-requires
+of-read-requires c κs = search needs
 
 enum-known-old-order : tie.Need-enum-known-old-order
 enum-known-old-order c = search needs
 
-slice-aggregate-load-and-read : tie.Need-slice-aggregate-load-and-read
-slice-aggregate-load-and-read c = search needs
+slice-aggregate-t32 : tie.Need-slice-aggregate-t32
+slice-aggregate-t32 c = search needs
 
-slice-aggregate-load-and-read-2 : tie.Need-slice-aggregate-load-and-read-2
-slice-aggregate-load-and-read-2 c = search needs
+slice-aggregate-t34 : tie.Need-slice-aggregate-t34
+slice-aggregate-t34 c = search needs
 
-slice-aggregate-load-and-read-3 : tie.Need-slice-aggregate-load-and-read-3
-slice-aggregate-load-and-read-3 c = search needs
+slice-aggregate-t37 : tie.Need-slice-aggregate-t37
+slice-aggregate-t37 c = search needs
 
-slice-aggregate-load-and-read-4 : tie.Need-slice-aggregate-load-and-read-4
-slice-aggregate-load-and-read-4 c = search needs
+slice-aggregate-t39 : tie.Need-slice-aggregate-t39
+slice-aggregate-t39 c = search needs
 
-load-and-read-requires : tie.Need-load-and-read-requires
-load-and-read-requires c κs = search needs
+read-out-requires : tie.Need-read-out-requires
+read-out-requires c κs = search needs
 
 returns-2 : tie.Need-returns-2
 returns-2 c =
-    let a = c .before .before .before .before .before .before .before .before .before .before .before .before .before .before .before .before .before .args in
-    let g = c .before .before .before .before .before .before .before .read-graphs in
-    ap (λ (r : GraphsRead). readOn r (a .checkpoint .now) (a .mapping .now))
-    (graphs-refused (g .result) _ _ _ _ _ (g .ensures) _ (c .before .told .given .1))
-    ∙ with-room _ _ _ _ (c .before .before .before .before .before .before .before .before .before .before .before .before .if1 .left)
+    let arm = c .before .before in
+    let g = at-read (arm .before .before) in
+    read-out-refused _ _ _ _ (at-room g .if1 .left) _ _ (c .of-read .ensures)
+    (problem-refused _ _ (g .read-problem .result) _ _ _ _ (g .read-problem .ensures) _ (arm .refusal .given .1))
 
 same-length : tie.Need-same-length
 same-length c = search needs
 
 returns-3 : tie.Need-returns-3
 returns-3 c =
-    let a = c .before .before .before .before .before .before .before .before .before .before .before .before .before .before .before .before .before .before .before .before .before .before .before .before .before .args in
-    let g = c .before .before .before .before .before .before .before .before .before .before .before .before .before .before .before .read-graphs in
-    c .before .before .load-and-read .ensures
-    ∙ ap (λ (r : GraphsRead). readOn r (a .checkpoint .now) (a .mapping .now))
-    (graphs-read (g .result) _ _ _ _ _ (g .ensures) _ _ (c .before .before .before .before .before .before .before .before .before .old-order .given .1))
-    ∙ with-room _ _ _ _ (c .before .before .before .before .before .before .before .before .before .before .before .before .before .before .before .before .before .before .before .before .if1 .left)
+    let call = c .before .before in
+    let arm = at-orders call in
+    let g = at-read (arm .before .before) in
+    read-out-read _ _ _ _ (at-room g .if1 .left)
+    _ (problem-read _ _ (g .read-problem .result) _ _ _ _ (g .read-problem .ensures) _ _ (arm .old-order .given .1))
+    _ (call .read-out .ensures)
 
 pub golfcedar-read-out-spec : {M : Type 1} → statement M
 golfcedar-read-out-spec =
     tie.close
     (tie.spec
     returns
-    slice-aggregate-read-graphs
-    slice-aggregate-read-graphs-2
-    slice-aggregate-read-graphs-3
-    slice-aggregate-read-graphs-4
-    read-graphs-requires
-    enum-known-told
+    slice-aggregate-read-problem
+    slice-aggregate-read-problem-2
+    slice-aggregate-read-problem-3
+    slice-aggregate-read-problem-4
+    read-problem-requires
+    enum-known-refusal
+    of-read-requires
     enum-known-old-order
-    slice-aggregate-load-and-read
-    slice-aggregate-load-and-read-2
-    slice-aggregate-load-and-read-3
-    slice-aggregate-load-and-read-4
-    load-and-read-requires
+    slice-aggregate-t32
+    slice-aggregate-t34
+    slice-aggregate-t37
+    slice-aggregate-t39
+    read-out-requires
     returns-2
     same-length
     returns-3)

@@ -1,69 +1,68 @@
--- `golfcedar_resume` meets its contract: the room is tested, the graphs are read, and the search goes on. Assumes nothing.
-use mathlib.Core.Path.{_≡_, ap, _∙_}
-use mathlib.Core.List.{List}
-use Prim.Native.Nat.{ℕ, _≤_}
-use lib.ListN.{length}
-use borrow.Author.Tests.{le-leb, lt-leb}
-use Rattle.c_api.specs.Graphs.{GraphsRead, readGraphs}
-use Rattle.c_api.specs.Calls.{resumeOn, resuming}
-use Rattle.c_api.proofs.ReadTables.{graphs-refused, graphs-read}
+-- `c_api::golfcedar_resume` meets its contract: the room is tested, the graphs are read, and the search goes on (`ReadArms`). Assumes nothing.
+use Rattle.problem_reader.proofs.ReadProblem.{problem-read, problem-refused}
+use Rattle.c_api.proofs.ReadArms.{resume-short, resume-refused, resume-read}
 use borrow.Author.Needs.{needs}
 use Rattle.c_api.proofs.golfcedar_resume.Statement.{statement}
 use Rattle.c_api.proofs.golfcedar_resume.Tie as tie
 
-with-room : (old new bytes : List ℕ) (budget : ℕ) (workspace next : List ℕ) → 270 ≤ length next
-    → resumeOn (readGraphs old new) bytes budget workspace next ≡ resuming old new bytes budget workspace next
-unfolding resuming
-with-room old new bytes budget workspace next p = simp (le-leb _ _ p)
+-- the way back from what is known of the tables to the reading
+abbrev at-read : tie.After-new-edges2 → tie.After-read-problem
+at-read c = c .before .before .before .before
+
+abbrev at-room : tie.After-read-problem → tie.Else1
+at-room c = c .before .before .before .before .before
+
+abbrev at-orders : tie.After-resume → tie.After-old-order
+at-orders c = c .before .before .before .before .before .before .before .before
 
 returns : tie.Need-returns
-unfolding resuming
-returns c =
-    simp (lt-leb _ _ (c .if1 .taken))
+returns c = resume-short _ _ _ _ _ _ (c .if1 .taken)
 
-slice-aggregate-read-graphs : tie.Need-slice-aggregate-read-graphs
-slice-aggregate-read-graphs c = search needs
+slice-aggregate-read-problem : tie.Need-slice-aggregate-read-problem
+slice-aggregate-read-problem c = search needs
 
-slice-aggregate-read-graphs-2 : tie.Need-slice-aggregate-read-graphs-2
-slice-aggregate-read-graphs-2 c = search needs
+slice-aggregate-read-problem-2 : tie.Need-slice-aggregate-read-problem-2
+slice-aggregate-read-problem-2 c = search needs
 
-slice-aggregate-read-graphs-3 : tie.Need-slice-aggregate-read-graphs-3
-slice-aggregate-read-graphs-3 c = search needs
+slice-aggregate-read-problem-3 : tie.Need-slice-aggregate-read-problem-3
+slice-aggregate-read-problem-3 c = search needs
 
-slice-aggregate-read-graphs-4 : tie.Need-slice-aggregate-read-graphs-4
-slice-aggregate-read-graphs-4 c = search needs
+slice-aggregate-read-problem-4 : tie.Need-slice-aggregate-read-problem-4
+slice-aggregate-read-problem-4 c = search needs
 
-read-graphs-requires : tie.Need-read-graphs-requires
-read-graphs-requires c κs = search needs
+read-problem-requires : tie.Need-read-problem-requires
+read-problem-requires c κs = search needs
 
-enum-known-told : tie.Need-enum-known-told
-enum-known-told c = search needs
+enum-known-refusal : tie.Need-enum-known-refusal
+enum-known-refusal c = search needs
+
+of-read-requires : tie.Need-of-read-requires
+of-read-requires c κs = search needs
 
 enum-known-old-order : tie.Need-enum-known-old-order
 enum-known-old-order c = search needs
 
-slice-aggregate-load-and-search : tie.Need-slice-aggregate-load-and-search
-slice-aggregate-load-and-search c = search needs
+slice-aggregate-t32 : tie.Need-slice-aggregate-t32
+slice-aggregate-t32 c = search needs
 
-slice-aggregate-load-and-search-2 : tie.Need-slice-aggregate-load-and-search-2
-slice-aggregate-load-and-search-2 c = search needs
+slice-aggregate-t34 : tie.Need-slice-aggregate-t34
+slice-aggregate-t34 c = search needs
 
-slice-aggregate-load-and-search-3 : tie.Need-slice-aggregate-load-and-search-3
-slice-aggregate-load-and-search-3 c = search needs
+slice-aggregate-t37 : tie.Need-slice-aggregate-t37
+slice-aggregate-t37 c = search needs
 
-slice-aggregate-load-and-search-4 : tie.Need-slice-aggregate-load-and-search-4
-slice-aggregate-load-and-search-4 c = search needs
+slice-aggregate-t39 : tie.Need-slice-aggregate-t39
+slice-aggregate-t39 c = search needs
 
-load-and-search-requires : tie.Need-load-and-search-requires
-load-and-search-requires c κs = search needs
+resume-requires : tie.Need-resume-requires
+resume-requires c κs = search needs
 
 returns-2 : tie.Need-returns-2
 returns-2 c =
-    let a = c .before .before .before .before .before .before .before .before .before .before .before .before .before .before .before .before .before .before .args in
-    let g = c .before .before .before .before .before .before .before .read-graphs in
-    ap (λ (r : GraphsRead). resumeOn r (a .checkpoint .now) (a .budget) (a .workspace .now) (a .next .now))
-    (graphs-refused (g .result) _ _ _ _ _ (g .ensures) _ (c .before .told .given .1))
-    ∙ with-room _ _ _ _ _ _ (c .before .before .before .before .before .before .before .before .before .before .before .before .if1 .left)
+    let arm = c .before .before in
+    let g = at-read (arm .before .before) in
+    resume-refused _ _ _ _ _ _ (at-room g .if1 .left) _ _ (c .of-read .ensures)
+    (problem-refused _ _ (g .read-problem .result) _ _ _ _ (g .read-problem .ensures) _ (arm .refusal .given .1))
 
 same-length : tie.Need-same-length
 same-length c = search needs
@@ -73,30 +72,31 @@ same-length-2 c = search needs
 
 returns-3 : tie.Need-returns-3
 returns-3 c =
-    let a = c .before .before .before .before .before .before .before .before .before .before .before .before .before .before .before .before .before .before .before .before .before .before .before .before .before .before .before .before .before .args in
-    let g = c .before .before .before .before .before .before .before .before .before .before .before .before .before .before .before .before .before .before .read-graphs in
-    c .before .before .before .before .load-and-search .ensures
-    ∙ ap (λ (r : GraphsRead). resumeOn r (a .checkpoint .now) (a .budget) (a .workspace .now) (a .next .now))
-    (graphs-read (g .result) _ _ _ _ _ (g .ensures) _ _ (c .before .before .before .before .before .before .before .before .before .before .before .before .old-order .given .1))
-    ∙ with-room _ _ _ _ _ _ (c .before .before .before .before .before .before .before .before .before .before .before .before .before .before .before .before .before .before .before .before .before .before .before .if1 .left)
+    let call = c .before .before .before .before in
+    let arm = at-orders call in
+    let g = at-read (arm .before .before) in
+    resume-read _ _ _ _ _ _ (at-room g .if1 .left)
+    _ (problem-read _ _ (g .read-problem .result) _ _ _ _ (g .read-problem .ensures) _ _ (arm .old-order .given .1))
+    (call .resume .result) _ _ (call .resume .ensures)
 
 pub golfcedar-resume-spec : {M : Type 1} → statement M
 golfcedar-resume-spec =
     tie.close
     (tie.spec
     returns
-    slice-aggregate-read-graphs
-    slice-aggregate-read-graphs-2
-    slice-aggregate-read-graphs-3
-    slice-aggregate-read-graphs-4
-    read-graphs-requires
-    enum-known-told
+    slice-aggregate-read-problem
+    slice-aggregate-read-problem-2
+    slice-aggregate-read-problem-3
+    slice-aggregate-read-problem-4
+    read-problem-requires
+    enum-known-refusal
+    of-read-requires
     enum-known-old-order
-    slice-aggregate-load-and-search
-    slice-aggregate-load-and-search-2
-    slice-aggregate-load-and-search-3
-    slice-aggregate-load-and-search-4
-    load-and-search-requires
+    slice-aggregate-t32
+    slice-aggregate-t34
+    slice-aggregate-t37
+    slice-aggregate-t39
+    resume-requires
     returns-2
     same-length
     same-length-2

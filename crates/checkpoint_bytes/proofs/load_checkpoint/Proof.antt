@@ -2,10 +2,11 @@
 use mathlib.Core.Path.{_≡_, sym, ap, _∙_}
 use mathlib.Core.Option.{none}
 use Prim.Native.Nat.{ℕ}
-use Rattle.graph.specs.Graph.{graph}
-use Rattle.graph.specs.Answers.{passed, refused, soundnessAnswer}
-use Rattle.mapping.specs.Problem.{Problem, problem, problemAnswer}
-use Rattle.mapping.proofs.ProblemPasses.{passes-problem}
+use Rattle.answers.specs.Answer.{passed, refused}
+use Rattle.problem.specs.Problem.{Problem, problemAnswer}
+use Rattle.problem.specs.Lent.{lent}
+use Rattle.problem.specs.Answers.{problemAnswerOf}
+use Rattle.problem.proofs.ProblemPasses.{passes-problem}
 use Rattle.search.specs.Checking.{checkpointAnswer}
 use Rattle.search.specs.Answers.{shapeAnswer}
 use Rattle.checkpoint_bytes.specs.Form.{formFault, faultOf}
@@ -17,21 +18,19 @@ use Rattle.checkpoint_bytes.proofs.load_checkpoint.Tie as tie
 
 -- the problem that is asked about
 abbrev asked : tie.Start → Problem
-asked s =
-    let a = s .args in
-    problem (graph (a .old-order) (a .old-labels .now) (a .old-edges .now)) (graph (a .new-order) (a .new-labels .now) (a .new-edges .now))
+asked s = lent (s .args .t1) (s .args .labels) (s .args .edges)
 
 -- the way back from each test to the one before it
 abbrev at-entry : tie.After-enum-told → tie.Start
-at-entry c = c .before .before .before .before .before .before .before .before
+at-entry c = c .before .before .before .before
 
 abbrev at-sound : tie.After-enum-told2 → tie.After-enum-told
 at-sound c = c .before .before .before
 
 told-sound : (c : tie.After-enum-told) → problemAnswer (asked (at-entry c)) ≡ passed
-told-sound c = sym (c .before .before .check-problem .ensures) ∙ ap soundnessAnswer (c .enum-told .given .1)
+told-sound c = sym (c .before .before .check-problem .ensures) ∙ ap problemAnswerOf (c .enum-told .given .1)
 
-told-formed : (c : tie.After-enum-told2) → let a = at-entry (at-sound c) .args in formFault (a .old-order) (a .bytes .now) ≡ none
+told-formed : (c : tie.After-enum-told2) → let s = at-entry (at-sound c) in formFault (asked s .old .order) (s .args .bytes .now) ≡ none
 told-formed c = sym (c .before .before .find-fault .ensures) ∙ ap faultOf (c .enum-told2 .given .1)
 
 check-problem-requires : tie.Need-check-problem-requires
@@ -45,13 +44,16 @@ refuse-requires c κs = search needs
 
 returns : tie.Need-returns
 returns c =
-    let told = c .before .before .before .before in
-    let s = told .before .before .before .before .before .before in
+    let check = c .before .before .before .before in
+    let s = check .before .before in
     c .refuse .ensures
-    ∙ load-flawed (asked s) (s .args .bytes .now) _ (sym (told .check-problem .ensures) ∙ ap soundnessAnswer (c .before .before .flaw .given .1))
+    ∙ load-flawed (asked s) (s .args .bytes .now) _ (sym (check .check-problem .ensures) ∙ ap problemAnswerOf (c .before .before .flaw .given .1))
 
 enum-told : tie.Need-enum-told
 enum-told c = search needs
+
+array-read-find-fault : tie.Need-array-read-find-fault
+array-read-find-fault c = search needs
 
 find-fault-requires : tie.Need-find-fault-requires
 find-fault-requires c κs = search needs
@@ -73,9 +75,12 @@ returns-2 c =
 enum-told-2 : tie.Need-enum-told-2
 enum-told-2 c = search needs
 
+array-read-read-formed : tie.Need-array-read-read-formed
+array-read-read-formed c = search needs
+
 read-formed-requires : tie.Need-read-formed-requires
 read-formed-requires c κs =
-    let sound = c .before .before .before in
+    let sound = at-sound c in
     (passes-problem (asked (at-entry sound)) (told-sound sound) .old-sound .order-max, told-formed c)
 
 -- what the load gives, by what the check says of the checkpoint that was read
@@ -137,11 +142,13 @@ load-checkpoint-spec =
     refuse-requires
     returns
     enum-told
+    array-read-find-fault
     find-fault-requires
     enum-known-at
     refuse-requires-2
     returns-2
     enum-told-2
+    array-read-read-formed
     read-formed-requires
     check-checkpoint-requires
     enum-told-3

@@ -2,25 +2,23 @@
 use mathlib.Core.Path.{_≡_, sym, ap, _∙_}
 use native.Mathlib.Omega.{arith}
 use lib.ListN.{length-map}
-use Rattle.graph.specs.Graph.{graph}
-use Rattle.graph.specs.Answers.{passed}
-use Rattle.mapping.specs.Problem.{Problem, problem}
+use Rattle.answers.specs.Answer.{passed}
+use Rattle.problem.specs.Problem.{Problem}
+use Rattle.problem.specs.Lent.{lent}
 use Rattle.search.specs.Checking.{checkpointAnswer}
 use Rattle.search.specs.Answers.{shapeAnswer}
+use Rattle.search.proofs.CheckpointPasses.{passes-shape}
 use Rattle.checkpoint_bytes.specs.Saving.{saving}
-use Rattle.checkpoint_bytes.proofs.SaveLoad.{passed-shape}
 use borrow.Author.Needs.{needs}
 use Rattle.checkpoint_bytes.proofs.save_checkpoint.Statement.{statement}
 use Rattle.checkpoint_bytes.proofs.save_checkpoint.Tie as tie
 
 -- the problem that is asked about
 abbrev asked : tie.Start → Problem
-asked s =
-    let a = s .args in
-    problem (graph (a .old-order) (a .old-labels .now) (a .old-edges .now)) (graph (a .new-order) (a .new-labels .now) (a .new-edges .now))
+asked s = lent (s .args .t1) (s .args .labels) (s .args .edges)
 
 abbrev at-entry : tie.After-enum-told2 → tie.Start
-at-entry c = c .before .before .before .before .before .before .before .before
+at-entry c = c .before .before .before .before
 
 told-passed : (c : tie.After-enum-told2) → checkpointAnswer (asked (at-entry c)) (at-entry c .args .checkpoint) ≡ passed
 told-passed c = sym (c .before .before .check-checkpoint .ensures) ∙ ap shapeAnswer (c .enum-told2 .given .1)
@@ -37,12 +35,15 @@ enum-told c = search needs
 enum-told-2 : tie.Need-enum-told-2
 enum-told-2 c = search needs
 
+array-read-save-in-shape : tie.Need-array-read-save-in-shape
+array-read-save-in-shape c = search needs
+
 save-in-shape-requires : tie.Need-save-in-shape-requires
 save-in-shape-requires c κs =
     let s = at-entry (c .before) in
-    let fine = passed-shape (asked s) (s .args .checkpoint) (told-passed (c .before)) in
+    let fine = passes-shape (asked s) (s .args .checkpoint) (told-passed (c .before)) in
     let few = fine .0 .old-sound .order-max in
-    let fields = s .good .1 .1 .1 .1 .1 .1 .0 .1 .1 in (
+    let fields = s .good .1 .1 .1 .0 .1 .1 in (
       few,
       omega (arith, few, fine .1 .depth-max),
       simp length-map at (fields .1 .1 .1 .0 .1 .0 .1),
@@ -52,21 +53,24 @@ save-in-shape-requires c κs =
 returns : tie.Need-returns
 unfolding saving
 returns c =
-    let told = sym (c .before .before .before .check-checkpoint .ensures) ∙ ap shapeAnswer (c .before .flaw .given .1) in
-    rw told
+    let check = c .before .before .before in
+    rw (sym (check .check-checkpoint .ensures) ∙ ap shapeAnswer (c .before .flaw .given .1))
 
 returns-2 : tie.Need-returns-2
 unfolding saving
 returns-2 c =
-    let told = sym (c .before .before .check-checkpoint .ensures) ∙ ap shapeAnswer (c .enum-told .given .1) in
-    rw told
+    let check = c .before .before in
+    rw (sym (check .check-checkpoint .ensures) ∙ ap shapeAnswer (c .enum-told .given .1))
 
 same-length : tie.Need-same-length
-same-length c = c .before .before .save-in-shape .kept .1 .1 .0
+same-length c = search needs
 
 returns-3 : tie.Need-returns-3
 unfolding saving
-returns-3 c = rw (told-passed (c .before .before .before .before)) (c .before .before .save-in-shape .ensures)
+returns-3 c =
+    let saved = c .before .before in
+    let told = saved .before .before in
+    rw (told-passed told) (saved .save-in-shape .ensures)
 
 pub save-checkpoint-spec : {M : Type 1} → statement M
 save-checkpoint-spec =
@@ -76,6 +80,7 @@ save-checkpoint-spec =
     enum-known-flaw
     enum-told
     enum-told-2
+    array-read-save-in-shape
     save-in-shape-requires
     returns
     returns-2

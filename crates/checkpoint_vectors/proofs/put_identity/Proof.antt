@@ -5,8 +5,6 @@ use Prim.Native.Nat.{_-_, _≤_}
 use lib.ListN.{length}
 use Rattle.checkpoint_vectors.proofs.put_identity.Statement.{statement}
 use Rattle.checkpoint_vectors.proofs.put_identity.Tie as tie
-use Rattle.checkpoint_vectors.proofs.put_identity.Reads as reads
-use Rattle.checkpoint_vectors.proofs.put_identity.Lts as lts
 
 abbrev Inv-loop : tie.InvT-loop
 Inv-loop mark bytes₀ start i₀ bytes i = (i ≤ 64) × (length bytes ≡ 270)
@@ -14,55 +12,42 @@ Inv-loop mark bytes₀ start i₀ bytes i = (i ≤ 64) × (length bytes ≡ 270)
 abbrev μ-loop : tie.MeasureT-loop
 μ-loop mark bytes₀ start i₀ bytes i = 64 - i
 
--- src/main.rt:227:5
 loop-holds : tie.Need-loop-holds Inv-loop μ-loop
 loop-holds c = search needs
 
--- src/main.rt:228:23
 mul-bytes : tie.Need-mul-bytes Inv-loop μ-loop
 mul-bytes c = search needs
 
--- src/main.rt:228:15
 add-bytes : tie.Need-add-bytes Inv-loop μ-loop
 add-bytes c = search needs
 
--- src/main.rt:228:9
 element-write-bytes : tie.Need-element-write-bytes Inv-loop μ-loop
 element-write-bytes c = search needs
 
--- src/main.rt:229:36
 cast-bytes : tie.Need-cast-bytes Inv-loop μ-loop
 cast-bytes c = search needs
 
--- src/main.rt:229:23
 mul-bytes-2 : tie.Need-mul-bytes-2 Inv-loop μ-loop
 mul-bytes-2 c = search needs
 
--- src/main.rt:229:15
 add-bytes-2 : tie.Need-add-bytes-2 Inv-loop μ-loop
 add-bytes-2 c = search needs
 
--- src/main.rt:229:15
 add-bytes-3 : tie.Need-add-bytes-3 Inv-loop μ-loop
 add-bytes-3 c = search needs
 
--- src/main.rt:229:9
 element-write-bytes-2 : tie.Need-element-write-bytes-2 Inv-loop μ-loop
 element-write-bytes-2 c = search needs
 
--- src/main.rt:230:9
 add-i : tie.Need-add-i Inv-loop μ-loop
 add-i c = search needs
 
--- src/main.rt:227:5
 loop-less : tie.Need-loop-less Inv-loop μ-loop
 loop-less c = search needs
 
--- src/main.rt:227:5
 loop-again : tie.Need-loop-again Inv-loop μ-loop
 loop-again c = search needs
 
--- src/main.rt:223:1
 returns : tie.Need-returns Inv-loop μ-loop
 returns c = search needs
 

@@ -2,7 +2,7 @@
 -- Assumes nothing.
 use borrow.Author.Needs.{needs}
 use mathlib.Core.Path.{ap, sym, _∙_}
-use Rattle.graph.specs.Answers.{soundnessAnswer}
+use Rattle.problem.specs.Answers.{problemAnswerOf}
 use Rattle.mapping.specs.Check.{checkOutcome}
 use Rattle.mapping.proofs.RowsAlone.{rows-alone}
 use Rattle.mapping.proofs.check_mapping.Statement.{statement}
@@ -24,12 +24,12 @@ returns : tie.Need-returns
 unfolding checkOutcome
 returns c =
     let r = c .before .before .before in
-    simp (sym (r .check-problem .ensures) ∙ ap soundnessAnswer (c .before .flaw .given .1))
+    simp (sym (r .check-problem .ensures) ∙ ap problemAnswerOf (c .before .flaw .given .1))
 
 returns-2 : tie.Need-returns-2
 returns-2 c =
     let r = c .before .before .before in
-    c .check-rows .ensures ∙ sym (rows-alone _ _ (sym (r .check-problem .ensures) ∙ ap soundnessAnswer (c .before .enum-told .given .1)))
+    c .check-rows .ensures ∙ sym (rows-alone _ _ (sym (r .check-problem .ensures) ∙ ap problemAnswerOf (c .before .enum-told .given .1)))
 
 pub check-mapping-spec : {M : Type 1} → statement M
 check-mapping-spec =

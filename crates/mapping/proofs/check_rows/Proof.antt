@@ -3,50 +3,33 @@
 use borrow.Author.Needs.{needs}
 use borrow.Author.Tests.{eq-eqb, ne-eqb, not-true, not-false}
 use mathlib.Core.Path.{ap, sym, _∙_}
-use mathlib.Core.Bool.{and-false}
-use mathlib.Core.Logic.{⊎-elim}
 use native.Mathlib.Omega.{arith}
-use Rattle.graph.proofs.TablesFit.{fit-lengths}
+use Rattle.problem.specs.Lent.{lent}
 use Rattle.mapping.specs.Answers.{accepted}
 use Rattle.mapping.specs.Check.{finding, rowFault, listOutcome, rowsOutcome}
+use Rattle.problem.proofs.BothFit.{both-fit}
 use Rattle.mapping.proofs.check_rows.Statement.{statement}
 use Rattle.mapping.proofs.check_rows.Tie as tie
 
-tables-fit-requires : tie.Need-tables-fit-requires
-tables-fit-requires c κs = search needs
-
-tables-fit-requires-2 : tie.Need-tables-fit-requires-2
-tables-fit-requires-2 c κs = search needs
+both-fit-requires : tie.Need-both-fit-requires
+both-fit-requires c κs = search needs
 
 returns : tie.Need-returns
 unfolding rowsOutcome
-returns c =
-    ⊎-elim
-    (λ w. simp (sym (c .before .tables-fit .ensures) ∙ not-true _ (w .taken)))
-    (λ w. simp (sym (w .1 .ensures) ∙ not-true _ (w .2 .taken), and-false))
-    (c .if1 .came)
+returns c = simp (sym (c .before .both-fit .ensures) ∙ not-true _ (c .if1 .taken))
+
+array-read-if2 : tie.Need-array-read-if2
+array-read-if2 c = search needs
 
 returns-2 : tie.Need-returns-2
 unfolding rowsOutcome listOutcome
-returns-2 c =
-    let new = c .before in
-    let old = new .before .before in
-    simp (
-      sym (old .before .tables-fit .ensures) ∙ not-false _ (old .if1 .left),
-      sym (new .before .tables-fit2 .ensures) ∙ not-false _ (new .if2 .left),
-      ne-eqb _ _ (c .if3 .taken),
-    )
+returns-2 c = simp (sym (c .before .before .both-fit .ensures) ∙ not-false _ (c .before .if1 .left), ne-eqb _ _ (c .if2 .taken))
 
 first-fault-requires : tie.Need-first-fault-requires
 first-fault-requires c κs =
-    let new = c .before in
-    let old = new .before .before in
-    let a = old .before .before .before .before .before .before .before .args in
-    let old-long = fit-lengths (a .old-order) (a .old-labels .now) (a .old-edges .now)
-    (sym (old .before .tables-fit .ensures) ∙ not-false _ (old .if1 .left)) in
-    let new-long = fit-lengths (a .new-order) (a .new-labels .now) (a .new-edges .now)
-    (sym (new .before .tables-fit2 .ensures) ∙ not-false _ (new .if2 .left)) in
-    ((old-long .0, old-long .1, new-long .0, new-long .1), omega (arith, old-long .2, new-long .2, c .if3 .left))
+    let a = c .before .before .before .before .args in
+    let long = both-fit (lent (a .t1) (a .labels) (a .edges)) (sym (c .before .before .both-fit .ensures) ∙ not-false _ (c .before .if1 .left)) in
+    ((long .0 .0, long .1 .0), (long .0 .1, long .1 .1), long .1 .2, omega (arith, long .0 .2, c .if2 .left))
 
 enum-known-answer : tie.Need-enum-known-answer
 enum-known-answer c = search needs
@@ -61,12 +44,9 @@ returns-3 : tie.Need-returns-3
 unfolding rowsOutcome listOutcome rowFault
 returns-3 c =
     let f = c .before .before .before in
-    let new = f .before .before in
-    let old = new .before .before in
     simp (
-      sym (old .before .tables-fit .ensures) ∙ not-false _ (old .if1 .left),
-      sym (new .before .tables-fit2 .ensures) ∙ not-false _ (new .if2 .left),
-      eq-eqb _ _ (f .before .if3 .left),
+      sym (f .before .before .before .both-fit .ensures) ∙ not-false _ (f .before .before .if1 .left),
+      eq-eqb _ _ (f .before .if2 .left),
       sym (f .first-fault .ensures) ∙ ap finding (c .before .answer .given .1),
     )
 
@@ -74,12 +54,9 @@ returns-4 : tie.Need-returns-4
 unfolding rowsOutcome listOutcome rowFault
 returns-4 c =
     let f = c .before .before .before in
-    let new = f .before .before in
-    let old = new .before .before in
     simp (
-      sym (old .before .tables-fit .ensures) ∙ not-false _ (old .if1 .left),
-      sym (new .before .tables-fit2 .ensures) ∙ not-false _ (new .if2 .left),
-      eq-eqb _ _ (f .before .if3 .left),
+      sym (f .before .before .before .both-fit .ensures) ∙ not-false _ (f .before .before .if1 .left),
+      eq-eqb _ _ (f .before .if2 .left),
       sym (f .first-fault .ensures) ∙ ap finding (c .before .enum-told .given .1),
     )
     (ap accepted (c .size .ensures))
@@ -88,9 +65,9 @@ pub check-rows-spec : {M : Type 1} → statement M
 check-rows-spec =
     tie.close
     (tie.spec
-    tables-fit-requires
-    tables-fit-requires-2
+    both-fit-requires
     returns
+    array-read-if2
     returns-2
     first-fault-requires
     enum-known-answer

@@ -39,26 +39,26 @@ edges-lent-requires-2 c κs = search needs
 array-share-prefix-old-labels : tie.Need-array-share-prefix-old-labels
 array-share-prefix-old-labels c = search needs
 
-slice-aggregate-check-mapping : tie.Need-slice-aggregate-check-mapping
-slice-aggregate-check-mapping c = sym (length-take-le _ _ (search needs))
-
-array-share-prefix-old-edges : tie.Need-array-share-prefix-old-edges
-array-share-prefix-old-edges c = search needs
-
-slice-aggregate-check-mapping-2 : tie.Need-slice-aggregate-check-mapping-2
-slice-aggregate-check-mapping-2 c = sym (length-take-le _ _ (search needs))
+slice-aggregate-t28 : tie.Need-slice-aggregate-t28
+slice-aggregate-t28 c = sym (length-take-le _ _ (search needs))
 
 array-share-prefix-new-labels : tie.Need-array-share-prefix-new-labels
 array-share-prefix-new-labels c = search needs
 
-slice-aggregate-check-mapping-3 : tie.Need-slice-aggregate-check-mapping-3
-slice-aggregate-check-mapping-3 c = sym (length-take-le _ _ (search needs))
+slice-aggregate-t30 : tie.Need-slice-aggregate-t30
+slice-aggregate-t30 c = sym (length-take-le _ _ (search needs))
+
+array-share-prefix-old-edges : tie.Need-array-share-prefix-old-edges
+array-share-prefix-old-edges c = search needs
+
+slice-aggregate-t33 : tie.Need-slice-aggregate-t33
+slice-aggregate-t33 c = sym (length-take-le _ _ (search needs))
 
 array-share-prefix-new-edges : tie.Need-array-share-prefix-new-edges
 array-share-prefix-new-edges c = search needs
 
-slice-aggregate-check-mapping-4 : tie.Need-slice-aggregate-check-mapping-4
-slice-aggregate-check-mapping-4 c = sym (length-take-le _ _ (search needs))
+slice-aggregate-t35 : tie.Need-slice-aggregate-t35
+slice-aggregate-t35 c = sym (length-take-le _ _ (search needs))
 
 check-mapping-requires : tie.Need-check-mapping-requires
 check-mapping-requires c κs = search needs
@@ -84,13 +84,13 @@ case-spec =
     labels-lent-requires-2
     edges-lent-requires-2
     array-share-prefix-old-labels
-    slice-aggregate-check-mapping
-    array-share-prefix-old-edges
-    slice-aggregate-check-mapping-2
+    slice-aggregate-t28
     array-share-prefix-new-labels
-    slice-aggregate-check-mapping-3
+    slice-aggregate-t30
+    array-share-prefix-old-edges
+    slice-aggregate-t33
     array-share-prefix-new-edges
-    slice-aggregate-check-mapping-4
+    slice-aggregate-t35
     check-mapping-requires
     write-line-requires
     returns)

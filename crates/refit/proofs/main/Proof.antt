@@ -3,7 +3,7 @@ use mathlib.Core.Path.{sym}
 use lib.ListN.{take, replicate}
 use lib.Seq.{length-take-le}
 use borrow.Author.Needs.{needs}
-use Rattle.report.specs.Program.{refitText}
+use Rattle.refit_text.specs.Program.{refitText}
 use Rattle.report.proofs.FilledBuffer.{written-fits}
 use Rattle.refit.proofs.main.Statement.{statement}
 use Rattle.refit.proofs.main.Tie as tie

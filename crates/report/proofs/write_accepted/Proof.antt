@@ -7,7 +7,7 @@ use Prim.Native.Nat.{ℕ}
 use native.Mathlib.Omega.{arith}
 use lib.ListN.{length, take}
 use lib.Seq.{length-take-le}
-use Rattle.graph.specs.Writing.{fill}
+use Rattle.answers.specs.Output.{fill}
 use Rattle.report.specs.Report.{acceptedText}
 use Rattle.report.proofs.FilledTexts.{front-put}
 use Rattle.report.proofs.write_accepted.Statement.{statement}

@@ -7,7 +7,7 @@ use Prim.Native.Nat.{ℕ, _≤_}
 use native.Mathlib.Omega.{arith}
 use lib.ListN.{length}
 use lib.Seq.{length-take-le}
-use Rattle.graph.specs.Writing.{fill}
+use Rattle.answers.specs.Output.{fill}
 use Rattle.report.specs.Lines.{refusedWord}
 use Rattle.report.specs.Report.{refusedText}
 use Rattle.report.proofs.FilledTexts.{front-put}
@@ -23,7 +23,7 @@ slice-aggregate-put-number-line-2 c = search needs
 
 -- the line has at most 29 bytes
 line-fits : (s : tie.Start) → length (refusedText (s .args .number)) ≤ 32
-line-fits s = omega (arith, length-numberLine refusedWord (s .args .number) (s .fits .number .fits))
+line-fits s = omega (arith, length-numberLine refusedWord (s .args .number) (omega arith))
 
 -- so its end lies in the 32 bytes
 end-fits : (c : tie.After-put-number-line) → c .put-number-line .result ≤ length (c .put-number-line .last .1 .1 .0)

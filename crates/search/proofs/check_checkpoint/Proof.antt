@@ -3,24 +3,23 @@ use mathlib.Core.Path.{_≡_, sym, ap, _∙_}
 use lib.ListN.{length-map}
 use borrow.Author.Needs.{needs}
 use borrow.Author.Tests.{not-true, not-false}
-use Rattle.graph.specs.Graph.{graph}
-use Rattle.graph.specs.Answers.{passed, soundnessAnswer}
-use Rattle.mapping.specs.Problem.{Problem, problem, problemAnswer}
-use Rattle.mapping.proofs.ProblemPasses.{passes-problem}
+use Rattle.answers.specs.Answer.{passed}
+use Rattle.problem.specs.Problem.{Problem, problemAnswer}
+use Rattle.problem.specs.Lent.{lent}
+use Rattle.problem.specs.Answers.{problemAnswerOf}
+use Rattle.problem.proofs.ProblemPasses.{passes-problem}
 use Rattle.search.specs.Checking.{checkpointAnswer}
 use Rattle.search.proofs.check_checkpoint.Statement.{statement}
 use Rattle.search.proofs.check_checkpoint.Tie as tie
 
 abbrev asked : tie.Start → Problem
-asked s =
-    let a = s .args in
-    problem (graph (a .old-order) (a .old-labels .now) (a .old-edges .now)) (graph (a .new-order) (a .new-labels .now) (a .new-edges .now))
+asked s = lent (s .args .orders) (s .args .labels) (s .args .edges)
 
 abbrev at-entry : tie.After-enum-told → tie.Start
-at-entry c = c .before .before .before .before .before .before .before
+at-entry c = c .before .before .before
 
 told-sound : (c : tie.After-enum-told) → problemAnswer (asked (at-entry c)) ≡ passed
-told-sound c = sym (c .before .before .check-problem .ensures) ∙ ap soundnessAnswer (c .enum-told .given .1)
+told-sound c = sym (c .before .before .check-problem .ensures) ∙ ap problemAnswerOf (c .enum-told .given .1)
 
 check-problem-requires : tie.Need-check-problem-requires
 check-problem-requires c κs = search needs
@@ -33,7 +32,7 @@ enum-told c = search needs
 
 in-shape-requires : tie.Need-in-shape-requires
 in-shape-requires c κs =
-    let fields = at-entry c .good .1 .1 .1 .1 .1 .1 .0 .1 .1 in (
+    let fields = at-entry c .good .1 .1 .1 .0 .1 .1 in (
       passes-problem (asked (at-entry c)) (told-sound c),
       (simp length-map at (fields .1 .1 .1 .0 .1 .0 .1), simp length-map at (fields .1 .1 .1 .1 .1 .1 .0 .1 .0 .1)),
     )
@@ -47,7 +46,7 @@ returns c =
 returns-2 : tie.Need-returns-2
 unfolding checkpointAnswer
 returns-2 c =
-    let told = sym (c .before .before .before .check-problem .ensures) ∙ ap soundnessAnswer (c .before .flaw .given .1) in
+    let told = sym (c .before .before .before .check-problem .ensures) ∙ ap problemAnswerOf (c .before .flaw .given .1) in
     rw told
 
 returns-3 : tie.Need-returns-3

@@ -7,7 +7,7 @@ use denote.Enum.Declared.{tagOf}
 use types.Run.{OneOf, miss}
 use borrow.Author.Needs.{needs}
 use Rattle.checkpoint_bytes.specs.declared.form.Stage.{Stage}
-use Rattle.checkpoint_bytes.specs.declared.form.Stage.the-variants.{Header, Path, PathByte, Held, HeldByte, Done}
+use Rattle.checkpoint_bytes.specs.declared.form.Stage.the-variants.{Header, Path, PathByte, Incumbent, IncumbentByte, Done}
 use Rattle.checkpoint_bytes.specs.Form.{isDone}
 use Rattle.checkpoint_bytes.proofs.form.Stage.{the-type}
 use Rattle.checkpoint_bytes.proofs.form.at_end.Statement.{statement}
@@ -18,8 +18,8 @@ not-done : (s : Stage) → OneOf (0 ∷ 1 ∷ 2 ∷ 3 ∷ 4 ∷ []) (tagOf the-t
 not-done (Header i) k = refl
 not-done (Path holds i) k = refl
 not-done (PathByte holds i) k = refl
-not-done (Held i) k = refl
-not-done (HeldByte i) k = refl
+not-done (Incumbent i) k = refl
+not-done (IncumbentByte i) k = refl
 not-done Done k = absurd (miss (0 ∷ 1 ∷ 2 ∷ 3 ∷ 4 ∷ []) 5 tt k)
 
 enum-told : tie.Need-enum-told

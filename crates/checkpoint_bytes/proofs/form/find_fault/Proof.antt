@@ -15,6 +15,10 @@ Inv-loop order bytes stage₀ at₀ stage at = FaultTurn order bytes stage at
 abbrev μ-loop : tie.MeasureT-loop
 μ-loop order bytes stage₀ at₀ stage at = length bytes - at
 
+-- the way back from a turn's call to its test
+abbrev at-turn : tie.After-next Inv-loop μ-loop → tie.In-loop Inv-loop μ-loop
+at-turn c = c .before .before
+
 loop-holds : tie.Need-loop-holds Inv-loop μ-loop
 loop-holds c = turn-first _ _
 
@@ -33,7 +37,8 @@ enum-told c = search needs
 returns : tie.Need-returns Inv-loop μ-loop
 returns c =
     let call = c .before .before in
-    turn-stuck _ _ _ _ (call .before .before .before .loop .inv) (call .before .before .loop-test .taken) (sym (call .next .ensures) ∙ ap stepOf (c .enum-told .given .1))
+    let turn = at-turn call in
+    turn-stuck _ _ _ _ (turn .before .loop .inv) (turn .loop-test .taken) (sym (call .next .ensures) ∙ ap stepOf (c .enum-told .given .1))
 
 add-at : tie.Need-add-at Inv-loop μ-loop
 add-at c = search needs
@@ -44,7 +49,8 @@ loop-less c = search needs
 loop-again : tie.Need-loop-again Inv-loop μ-loop
 loop-again c =
     let call = c .before .before .before in
-    turn-more _ _ _ _ (call .before .before .before .loop .inv) _ (call .before .before .loop-test .taken) (sym (call .next .ensures) ∙ ap stepOf (c .before .later .given .1))
+    let turn = at-turn call in
+    turn-more _ _ _ _ (turn .before .loop .inv) _ (turn .loop-test .taken) (sym (call .next .ensures) ∙ ap stepOf (c .before .later .given .1))
 
 at-end-requires : tie.Need-at-end-requires Inv-loop μ-loop
 at-end-requires c κs = search needs

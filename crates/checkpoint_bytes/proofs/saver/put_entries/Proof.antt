@@ -4,7 +4,7 @@ use Prim.Native.Nat.{_+_, _-_, _≤_}
 use native.Mathlib.Numerals.{add-one}
 use native.Mathlib.Omega.{arith}
 use lib.ListN.{length, getD, length-set}
-use Rattle.graph.proofs.Stores.{StoredTo, stored-none, stored-more, stored-room, stored-all}
+use Rattle.answers.proofs.Stores.{StoredTo, stored-none, stored-more, stored-room, stored-all}
 use Rattle.checkpoint_bytes.proofs.EntryRuns.{length-entryBytes}
 use borrow.Author.Needs.{needs}
 use Rattle.checkpoint_bytes.proofs.saver.put_entries.Statement.{statement}

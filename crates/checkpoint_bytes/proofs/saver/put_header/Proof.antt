@@ -20,6 +20,10 @@ slice-write-out-3 c = simp length-set (omega arith)
 put-steps-requires : tie.Need-put-steps-requires
 put-steps-requires c κs = simp length-set (omega arith)
 
+-- the way back from the state's byte to the steps
+abbrev at-steps : tie.After-state-byte → tie.After-put-steps
+at-steps c = c .before .before .before
+
 -- the buffer is as long as it came
 written : (c : tie.After-put-steps) → length (c .put-steps .last .1 .0) ≡ length (c .before .before .before .args .out .now)
 written c = simp length-set at (c .put-steps .kept .1 .0)
@@ -31,14 +35,14 @@ state-byte-requires : tie.Need-state-byte-requires
 state-byte-requires c κs = search needs
 
 slice-write-out-5 : tie.Need-slice-write-out-5
-slice-write-out-5 c = simp length-set (omega (arith, written (c .before .before .before)))
+slice-write-out-5 c = simp length-set (omega (arith, written (at-steps c)))
 
 same-length : tie.Need-same-length
-same-length c = simp length-set (written (c .before .before .before))
+same-length c = simp length-set (written (at-steps c))
 
 returns : tie.Need-returns
 unfolding headerBytes littleEndian
-returns c = rw (c .state-byte .ensures, c .before .before .before .put-steps .ensures)
+returns c = rw (c .state-byte .ensures, at-steps c .put-steps .ensures)
 
 pub put-header-spec : {M : Type 1} → statement M
 put-header-spec =

@@ -5,8 +5,8 @@ use Prim.Native.Nat.{_+_, _-_}
 use native.Mathlib.Omega.{arith}
 use lib.ListN.{getD}
 use Rattle.little_endian.specs.LittleEndian.{littleEndian}
-use Rattle.graph.specs.Below.{runBelow}
-use Rattle.graph.proofs.Stores.{StoredTo, stored-none, stored-more, stored-all}
+use Rattle.bounded.specs.Below.{runBelow}
+use Rattle.answers.proofs.Stores.{StoredTo, stored-none, stored-more, stored-all}
 use borrow.Author.Needs.{needs}
 use Rattle.checkpoint_bytes.proofs.saver.put_steps.Statement.{statement}
 use Rattle.checkpoint_bytes.proofs.saver.put_steps.Tie as tie

@@ -4,8 +4,6 @@ use Prim.Native.Nat.{_-_, _≤_}
 use lib.ListN.{length}
 use Rattle.checkpoint_vectors.proofs.lines.same.Statement.{statement}
 use Rattle.checkpoint_vectors.proofs.lines.same.Tie as tie
-use Rattle.checkpoint_vectors.proofs.lines.same.Reads as reads
-use Rattle.checkpoint_vectors.proofs.lines.same.Lts as lts
 
 abbrev Inv-loop : tie.InvT-loop
 Inv-loop bytes buffer i₀ i = i ≤ length buffer
@@ -13,35 +11,27 @@ Inv-loop bytes buffer i₀ i = i ≤ length buffer
 abbrev μ-loop : tie.MeasureT-loop
 μ-loop bytes buffer i₀ i = length buffer - i
 
--- src/lines.rt:64:5
 loop-holds : tie.Need-loop-holds Inv-loop μ-loop
 loop-holds c = search needs
 
--- src/lines.rt:67:19
 shared-slice-read-due : tie.Need-shared-slice-read-due Inv-loop μ-loop
 shared-slice-read-due c = search needs
 
--- src/lines.rt:69:12
 shared-slice-read-if2 : tie.Need-shared-slice-read-if2 Inv-loop μ-loop
 shared-slice-read-if2 c = search needs
 
--- src/lines.rt:70:13
 returns : tie.Need-returns Inv-loop μ-loop
 returns c = search needs
 
--- src/lines.rt:72:9
 add-i : tie.Need-add-i Inv-loop μ-loop
 add-i c = search needs
 
--- src/lines.rt:64:5
 loop-less : tie.Need-loop-less Inv-loop μ-loop
 loop-less c = search needs
 
--- src/lines.rt:64:5
 loop-again : tie.Need-loop-again Inv-loop μ-loop
 loop-again c = search needs
 
--- src/lines.rt:62:1
 returns-2 : tie.Need-returns-2 Inv-loop μ-loop
 returns-2 c = search needs
 

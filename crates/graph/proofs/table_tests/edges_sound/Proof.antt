@@ -4,7 +4,7 @@ use borrow.Author.Needs.{needs}
 use borrow.Author.Tests.{not-true, not-false}
 use mathlib.Core.Path.{sym, _∙_}
 use Prim.Native.Nat.{_-_}
-use Rattle.graph.proofs.AllBelow.{PassedTo, passed-none, passed-more, passed-all, false-allBelow}
+use Rattle.bounded.proofs.AllBelow.{PassedTo, passed-none, passed-more, passed-all, false-allBelow}
 use Rattle.graph.proofs.HalfRows.{halfRow, half-rows}
 use Rattle.graph.proofs.table_tests.edges_sound.Statement.{statement}
 use Rattle.graph.proofs.table_tests.edges_sound.Tie as tie

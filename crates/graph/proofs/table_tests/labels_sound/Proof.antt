@@ -4,8 +4,8 @@ use borrow.Author.Needs.{needs}
 use borrow.Author.Tests.{not-true, not-false}
 use mathlib.Core.Path.{sym, _∙_}
 use Prim.Native.Nat.{_-_}
+use Rattle.bounded.proofs.AllBelow.{PassedTo, passed-none, passed-more, passed-all, false-allBelow}
 use Rattle.graph.specs.Soundness.{labelSound, labelsSound}
-use Rattle.graph.proofs.AllBelow.{PassedTo, passed-none, passed-more, passed-all, false-allBelow}
 use Rattle.graph.proofs.table_tests.labels_sound.Statement.{statement}
 use Rattle.graph.proofs.table_tests.labels_sound.Tie as tie
 

@@ -22,15 +22,15 @@ returns-2 c = simp (ne-eqb _ _ (c .before .if1 .left), eq-eqb _ _ (c .if2 .taken
 cast-from : tie.Need-cast-from
 cast-from c =
     let k = c .before .before in
-    omega (arith, k .shared-slice-known5 .given (k .before .before .before .before .before .args .u .0))
+    omega (arith, k .shared-slice-known3 .given (k .before .before .before .args .u .0))
 
 cast-to : tie.Need-cast-to
 cast-to c = search needs
 
 compare-edges-requires : tie.Need-compare-edges-requires
 compare-edges-requires c κs =
-    let s = c .before .before .before .before .before .before .before in
-    omega (arith, s .pre .1 .1 (s .args .u .0) (s .pre .0 .4) (c .before .if1 .left))
+    let s = c .before .before .before .before .before in
+    omega (arith, s .pre .1 .1 (s .args .u .0) (s .pre .0 .3) (c .before .if1 .left))
 
 returns-3 : tie.Need-returns-3
 returns-3 c =

@@ -2,26 +2,19 @@
 -- Assumes nothing.
 use borrow.Author.Needs.{needs}
 use mathlib.Core.Path.{ap, sym, _∙_}
-use mathlib.Core.List.{List, []}
-use mathlib.Core.Option.{Option}
-use Prim.Native.Nat.{ℕ, _-_}
-use Rattle.graph.specs.Graph.{graph}
-use Rattle.mapping.specs.Problem.{problem}
-use Rattle.mapping.specs.Answers.{Outcome}
+use mathlib.Core.List.{[]}
+use Prim.Native.Nat.{_-_}
+use Rattle.bounded.proofs.First.{ClearTo, clear-none, clear-more, clear-all, clear-found}
+use Rattle.problem.specs.Lent.{lent}
 use Rattle.mapping.specs.Check.{clash, finding}
-use Rattle.mapping.proofs.First.{ClearTo, clear-none, clear-more, clear-all, clear-found}
 use Rattle.mapping.proofs.rows.first_clash.Statement.{statement}
 use Rattle.mapping.proofs.rows.first_clash.Tie as tie
 
--- the contract's function of the earlier row
-abbrev clashAt : List ℕ → List ℕ → List ℕ → ℕ → ℕ → Option Outcome
-clashAt old-edges new-edges mapping v = clash (problem (graph 0 [] old-edges) (graph 0 [] new-edges)) mapping v
-
 abbrev Inv-loop : tie.InvT-loop
-Inv-loop old-edges new-edges mapping v row u₀ u = ClearTo (v .0) (clashAt old-edges new-edges mapping (v .0)) u
+Inv-loop edges mapping v row u₀ u = ClearTo (v .0) (clash (lent [] [] edges) mapping (v .0)) u
 
 abbrev μ-loop : tie.MeasureT-loop
-μ-loop old-edges new-edges mapping v row u₀ u = v .0 - u
+μ-loop edges mapping v row u₀ u = v .0 - u
 
 loop-holds : tie.Need-loop-holds Inv-loop μ-loop
 loop-holds c = clear-none _ _

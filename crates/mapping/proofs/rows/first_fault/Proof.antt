@@ -10,11 +10,11 @@ use Prim.Native.Nat.{ℕ, _-_, _<_}
 use native.Mathlib.Omega.{arith}
 use lib.Dec.{ltb}
 use lib.ListN.{length, getD}
-use Rattle.graph.specs.Graph.{graph}
-use Rattle.mapping.specs.Problem.{Problem, problem}
+use Rattle.bounded.proofs.First.{ClearTo, clear-none, clear-more, clear-all, clear-found}
+use Rattle.problem.specs.Problem.{Problem}
+use Rattle.problem.specs.Lent.{lent}
 use Rattle.mapping.specs.Common.{unmapped}
 use Rattle.mapping.specs.Check.{rowFault, finding}
-use Rattle.mapping.proofs.First.{ClearTo, clear-none, clear-more, clear-all, clear-found}
 use Rattle.mapping.proofs.rows.first_fault.Statement.{statement}
 use Rattle.mapping.proofs.rows.first_fault.Tie as tie
 
@@ -28,24 +28,24 @@ clear-entry P l u e m = go (ltb (getD l u 0) (P .new .order)) refl
     go false t = absurd (Option·some-ne-none _ (simp (ne-eqb (getD l u 0) unmapped m, t) at e))
 
 abbrev Inv-loop : tie.InvT-loop
-Inv-loop old-labels old-edges new-order new-labels new-edges mapping v₀ v =
-    ClearTo (length mapping) (rowFault (problem (graph 0 old-labels old-edges) (graph new-order new-labels new-edges)) mapping) v
+Inv-loop orders labels edges mapping v₀ v = ClearTo (length mapping) (rowFault (lent orders labels edges) mapping) v
 
 abbrev μ-loop : tie.MeasureT-loop
-μ-loop old-labels old-edges new-order new-labels new-edges mapping v₀ v = length mapping - v
+μ-loop orders labels edges mapping v₀ v = length mapping - v
 
 loop-holds : tie.Need-loop-holds Inv-loop μ-loop
 loop-holds c = clear-none _ _
 
 row-fault-requires : tie.Need-row-fault-requires Inv-loop μ-loop
 row-fault-requires c κs =
-    let s = c .before .before .before .before .before .before .before in (
-      s .pre .0,
+    let s = c .before .before .before in (
+      (s .pre .0, s .pre .1, s .pre .2),
       (
-        (s .pre .1 .0, s .pre .1 .1, c .loop-test .taken),
+        s .pre .3,
+        c .loop-test .taken,
         λ u h m.
             let below = clear-entry _ _ u (c .before .loop .inv .1 u h) m in
-            omega (arith, below, s .pre .1 .0),
+            omega (arith, below, s .pre .2),
       ),
     )
 

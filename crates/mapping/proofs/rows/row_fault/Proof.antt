@@ -3,7 +3,7 @@
 use borrow.Author.Needs.{needs}
 use borrow.Author.Tests.{eq-eqb, ne-eqb, lt-ltb, le-ltb, not-true, not-false}
 use mathlib.Core.Path.{sym, _∙_}
-use Prim.Native.Nat.{_≤_, _<_}
+use Prim.Native.Nat.{_<_}
 use native.Mathlib.Omega.{arith}
 use lib.ListN.{getD}
 use Rattle.mapping.specs.Check.{rowFault}
@@ -20,14 +20,14 @@ returns c = simp (eq-eqb _ _ (c .if1 .taken))
 cast-w : tie.Need-cast-w
 cast-w c =
     let k = c .before in
-    omega (arith, k .shared-slice-known6 .given (k .before .before .before .before .before .before .args .v .0))
+    omega (arith, k .shared-slice-known2 .given (k .before .before .args .v .0))
+
+array-read-if2 : tie.Need-array-read-if2
+array-read-if2 c = search needs
 
 returns-2 : tie.Need-returns-2
 unfolding rowFault
-returns-2 c =
-    let a = c .before .before .before .before .before .before .before .before .args in
-    let past : a .new-order ≤ getD (a .mapping .now) (a .v .0) 0 = omega arith in
-    simp (ne-eqb _ _ (c .before .if1 .left), le-ltb _ _ past)
+returns-2 c = simp (ne-eqb _ _ (c .before .if1 .left), le-ltb _ _ (c .if2 .taken))
 
 compare-vertices-requires : tie.Need-compare-vertices-requires
 compare-vertices-requires c κs = search needs
@@ -44,9 +44,9 @@ returns-3 c =
 
 first-clash-requires : tie.Need-first-clash-requires
 first-clash-requires c κs =
-    let s = c .before .before .before .before .before .before .before .before .before .before in
-    let below : getD (s .args .mapping .now) (s .args .v .0) 0 < 64 = omega (arith, c .before .before .if2 .left, s .pre .1 .0 .0) in
-    ((s .pre .0 .1, s .pre .0 .3, s .pre .1 .0 .1, s .pre .1 .0 .2), (below, s .pre .1 .1))
+    let s = c .before .before .before .before .before .before in
+    let below : getD (s .args .mapping .now) (s .args .v .0) 0 < 64 = omega (arith, c .before .before .if2 .left, s .pre .0 .2) in
+    ((s .pre .0 .1, s .pre .1 .0, s .pre .1 .1), (below, s .pre .1 .2))
 
 returns-4 : tie.Need-returns-4
 unfolding rowFault
@@ -66,6 +66,7 @@ row-fault-spec =
     shared-slice-read-image
     returns
     cast-w
+    array-read-if2
     returns-2
     compare-vertices-requires
     returns-3

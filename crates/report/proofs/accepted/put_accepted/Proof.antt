@@ -5,7 +5,7 @@ use mathlib.Core.List.{List}
 use Prim.Native.Nat.{ℕ, _+_, _^_, _≤_, _<_}
 use native.Mathlib.Omega.{arith}
 use lib.ListN.{length, getD, length-append}
-use Rattle.report.specs.Report.{headLines, heldLines}
+use Rattle.report.specs.Report.{headLines, incumbentLines}
 use Rattle.report.proofs.PutTexts.{put-then}
 use Rattle.report.proofs.TextLengths.{length-accepted}
 use Rattle.report.proofs.accepted.put_accepted.Statement.{statement}
@@ -16,7 +16,7 @@ abbrev head : tie.Start → List ℕ
 head s = headLines (s .args .finished) (s .args .holds) (s .args .mapping .now) (s .args .steps) (s .args .ceiling)
 
 abbrev held : tie.Start → List ℕ
-held s = heldLines (s .args .holds) (s .args .new-order) (s .args .mapping .now)
+held s = incumbentLines (s .args .holds) (s .args .new-order) (s .args .mapping .now)
 
 -- all of them fit
 all-fit : (c : tie.After-shared-slice-known) → length (head (c .before)) + length (held (c .before)) ≤ 8192
@@ -34,8 +34,8 @@ put-head-requires c κs =
     let known = c .before .before in
     omega (arith, all-fit known, known .before .pre)
 
-put-held-requires : tie.Need-put-held-requires
-put-held-requires c κs =
+put-incumbent-requires : tie.Need-put-incumbent-requires
+put-incumbent-requires c κs =
     let first = c .before .before .before in
     let known = first .before .before .before in
     omega (arith, all-fit known, known .before .pre, first .put-head .ensures .place-is, first .put-head .kept .1 .1 .1 .1 .1 .0)
@@ -47,9 +47,9 @@ returns : tie.Need-returns
 returns c =
     let rest = c .before .before in
     let first = rest .before .before .before .before in
-    let all = put-then (first .put-head .ensures) (rest .put-held .ensures) in
+    let all = put-then (first .put-head .ensures) (rest .put-incumbent .ensures) in
     let start = first .before .before .before .before in
     (all, omega (arith, all .place-is, all-fit (first .before .before .before), length-append (head start) (held start)))
 
 pub put-accepted-spec : {M : Type 1} → statement M
-put-accepted-spec = tie.close (tie.spec put-head-requires put-held-requires same-length returns)
+put-accepted-spec = tie.close (tie.spec put-head-requires put-incumbent-requires same-length returns)

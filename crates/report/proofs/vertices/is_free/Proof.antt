@@ -8,7 +8,7 @@ use native.Mathlib.Omega.{arith}
 use lib.Dec.{eqb}
 use lib.ListN.{length, getD}
 use borrow.Author.Tests.{eq-eqb, ne-eqb}
-use Rattle.graph.proofs.AllBelow.{PassedTo, passed-none, passed-more, passed-all, false-allBelow}
+use Rattle.bounded.proofs.AllBelow.{PassedTo, passed-none, passed-more, passed-all, false-allBelow}
 use Rattle.report.specs.Lines.{isFree}
 use Rattle.report.proofs.vertices.is_free.Statement.{statement}
 use Rattle.report.proofs.vertices.is_free.Tie as tie

@@ -4,14 +4,14 @@ use borrow.Author.Needs.{needs}
 use mathlib.Core.Path.{sym, _∙_}
 use mathlib.Core.Logic.{⊎-elim}
 use Prim.Native.Nat.{_-_}
-use Rattle.graph.proofs.Stores.{StoredTo, stored-none}
-use Rattle.report.specs.Lines.{fitPart, fitLines}
+use Rattle.answers.proofs.Stores.{StoredTo, stored-none}
+use Rattle.report.specs.Lines.{fitText, fitLines}
 use Rattle.report.proofs.PutRuns.{line-there, line-else, line-room, line-more, line-none, lines-all}
 use Rattle.report.proofs.vertices.put_fitted.Statement.{statement}
 use Rattle.report.proofs.vertices.put_fitted.Tie as tie
 
 abbrev Inv-loop : tie.InvT-loop
-Inv-loop new-order mapping out₀ start at₀ v₀ out at v = StoredTo new-order (fitPart mapping) start out₀ v at out
+Inv-loop new-order mapping out₀ start at₀ v₀ out at v = StoredTo new-order (fitText mapping) start out₀ v at out
 
 abbrev μ-loop : tie.MeasureT-loop
 μ-loop new-order mapping out₀ start at₀ v₀ out at v = new-order - v

@@ -7,25 +7,25 @@ use mathlib.Core.Logic.{⊎-elim}
 use Prim.Native.Nat.{ℕ, _-_}
 use lib.ListN.{length, getD}
 use borrow.Author.Tests.{eq-eqb, ne-eqb}
-use Rattle.graph.proofs.Stores.{StoredTo, stored-none}
+use Rattle.answers.proofs.Stores.{StoredTo, stored-none}
 use Rattle.mapping.specs.Common.{unmapped}
-use Rattle.report.specs.Lines.{keepLine, keepPart, keepLines}
+use Rattle.report.specs.Lines.{keepLine, keepText, keepLines}
 use Rattle.report.proofs.PutRuns.{line-there, line-else, line-room, line-more, line-none, lines-all}
 use Rattle.report.proofs.vertices.put_kept.Statement.{statement}
 use Rattle.report.proofs.vertices.put_kept.Tie as tie
 
 abbrev Inv-loop : tie.InvT-loop
-Inv-loop mapping out₀ start at₀ i₀ out at i = StoredTo (length mapping) (keepPart mapping) start out₀ i at out
+Inv-loop mapping out₀ start at₀ i₀ out at i = StoredTo (length mapping) (keepText mapping) start out₀ i at out
 
 abbrev μ-loop : tie.MeasureT-loop
 μ-loop mapping out₀ start at₀ i₀ out at i = length mapping - i
 
 -- a mapped vertex has a line
-mapped-line : (l : List ℕ) (i : ℕ) → (getD l i 0 ≡ unmapped → ⊥) → keepPart l i ≡ keepLine i (getD l i 0)
+mapped-line : (l : List ℕ) (i : ℕ) → (getD l i 0 ≡ unmapped → ⊥) → keepText l i ≡ keepLine i (getD l i 0)
 mapped-line l i h = line-else _ _ _ (ne-eqb _ _ h)
 
 -- any other has none
-unmapped-line : (l : List ℕ) (i : ℕ) → getD l i 0 ≡ unmapped → keepPart l i ≡ []
+unmapped-line : (l : List ℕ) (i : ℕ) → getD l i 0 ≡ unmapped → keepText l i ≡ []
 unmapped-line l i h = line-there _ _ _ (eq-eqb _ _ h)
 
 loop-holds : tie.Need-loop-holds Inv-loop μ-loop

@@ -7,25 +7,25 @@ use mathlib.Core.Logic.{⊎-elim}
 use Prim.Native.Nat.{ℕ, _-_}
 use lib.ListN.{length, getD}
 use borrow.Author.Tests.{eq-eqb, ne-eqb}
-use Rattle.graph.proofs.Stores.{StoredTo, stored-none}
+use Rattle.answers.proofs.Stores.{StoredTo, stored-none}
 use Rattle.mapping.specs.Common.{unmapped}
-use Rattle.report.specs.Lines.{numberLine, removeWord, removePart, removeLines}
+use Rattle.report.specs.Lines.{numberLine, removeWord, removeText, removeLines}
 use Rattle.report.proofs.PutRuns.{line-there, line-else, line-room, line-more, line-none, lines-all}
 use Rattle.report.proofs.vertices.put_removed.Statement.{statement}
 use Rattle.report.proofs.vertices.put_removed.Tie as tie
 
 abbrev Inv-loop : tie.InvT-loop
-Inv-loop mapping out₀ start at₀ i₀ out at i = StoredTo (length mapping) (removePart mapping) start out₀ i at out
+Inv-loop mapping out₀ start at₀ i₀ out at i = StoredTo (length mapping) (removeText mapping) start out₀ i at out
 
 abbrev μ-loop : tie.MeasureT-loop
 μ-loop mapping out₀ start at₀ i₀ out at i = length mapping - i
 
 -- a vertex that is left out has a line
-unmapped-line : (l : List ℕ) (i : ℕ) → getD l i 0 ≡ unmapped → removePart l i ≡ numberLine removeWord i
+unmapped-line : (l : List ℕ) (i : ℕ) → getD l i 0 ≡ unmapped → removeText l i ≡ numberLine removeWord i
 unmapped-line l i h = line-there _ _ _ (eq-eqb _ _ h)
 
 -- any other has none
-mapped-line : (l : List ℕ) (i : ℕ) → (getD l i 0 ≡ unmapped → ⊥) → removePart l i ≡ []
+mapped-line : (l : List ℕ) (i : ℕ) → (getD l i 0 ≡ unmapped → ⊥) → removeText l i ≡ []
 mapped-line l i h = line-else _ _ _ (ne-eqb _ _ h)
 
 loop-holds : tie.Need-loop-holds Inv-loop μ-loop

@@ -20,12 +20,12 @@ upper-bound-requires : tie.Need-upper-bound-requires
 upper-bound-requires c κs = search needs
 
 add-own : tie.Need-add-own
-add-own c = omega (arith, c .before .before .upper-bound .ensures .1 .1)
+add-own c = omega (arith, c .before .before .upper-bound .ensures .1)
 
 later-top-requires : tie.Need-later-top-requires
 later-top-requires c κs =
     let bounds = c .before .before .before .before .before .before .before .before .before .before .pre in
-    bounds-shorter bounds (le-refl _) (bounds .pairs-are) (c .before .before .before .before .upper-bound .kept .1 .1 .1 .1 .0)
+    bounds-shorter bounds (le-refl _) (bounds .pairs-are) (c .before .before .before .before .upper-bound .kept .1 .1 .1 .0)
 
 same-length : tie.Need-same-length
 same-length c = search needs
@@ -38,9 +38,9 @@ returns-2 c =
     let top-is : c .before .before .before .before .if2 .top ≡ max cutoff (1 + own .result) =
     ⊎-elim (λ w. omega arith) (λ w. omega arith) (c .before .before .before .before .if2 .came) in
     λ P minimum incumbent setting ready.
-    let words = own .ensures .1 .0 P setting (ready .node) in
-    let node = node-kept setting (ready .node) (own .kept .1 .1 .1 .1 .0) words in
-    let greatest = ceiling-open setting ready (open-test .if1 .left) (own .ensures .0 P setting (ready .node)) in
+    let bounded = own .ensures .0 P setting (ready .node) in
+    let node = node-kept setting (ready .node) (own .kept .1 .1 .1 .0) (bounded .words) in
+    let greatest = ceiling-open setting ready (open-test .if1 .left) (bounded .bound-is) in
     omega (arith, c .before .before .later-top .ensures P setting node)
 
 pub ceiling-spec : {M : Type 1} → statement M

@@ -1,23 +1,23 @@
 -- `search::ceiling::later_top` meets its contract: level by level the later siblings are counted or passed over (`LaterTop`). A level's
 -- bounds are made in the level after it, which is not needed any more.
 -- Assumes nothing.
-use mathlib.Core.Path.{_≡_}
+use mathlib.Core.Path.{_≡_, refl}
 use Prim.Native.Nat.{ℕ, _+_, _-_}
 use native.Mathlib.Omega.{arith}
 use lib.ListN.{take}
 use borrow.Author.Needs.{needs}
 use Rattle.mapping.specs.Common.{size}
 use Rattle.search.proofs.NodeWords.{openRows-max, size-take-max, entry-max}
-use Rattle.search.proofs.LaterTop.{LevelsHead, bounds-shorter, levels-first, level-left-out, level-pairs, level-counted, level-skipped, levels-all}
+use Rattle.search.proofs.LaterTop.{LevelsHead, levels-first, level-left-out, level-pairs, level-counted, level-skipped, levels-all}
 use Rattle.search.proofs.ceiling.later_top.Statement.{statement}
 use Rattle.search.proofs.ceiling.later_top.Tie as tie
 
 abbrev Inv-loop : tie.InvT-loop
-Inv-loop order edges masks path workspace₀ depth pairs least top₀ k₀ left₀ workspace top k left =
-    LevelsHead order edges masks path workspace₀ workspace depth pairs least k left top
+Inv-loop edges masks path workspace₀ depth pairs least top₀ k₀ left₀ workspace top k left =
+    LevelsHead edges masks path workspace₀ workspace depth pairs least k left top
 
 abbrev μ-loop : tie.MeasureT-loop
-μ-loop order edges masks path workspace₀ depth pairs least top₀ k₀ left₀ workspace top k left = k
+μ-loop edges masks path workspace₀ depth pairs least top₀ k₀ left₀ workspace top k left = k
 
 -- the function's entry, from the loop's head
 abbrev entry : tie.At-loop Inv-loop μ-loop → tie.Start Inv-loop μ-loop
@@ -75,8 +75,12 @@ row-top-requires : tie.Need-row-top-requires Inv-loop μ-loop
 row-top-requires c κs =
     let head = c .before .before .before .before .before .before .before in
     let pre = entry head .pre in (
-      bounds-shorter pre (omega arith) (omega (arith, pairs-left (c .before .before .before .before))) (head .loop .inv .kept .words),
-      (omega arith, entry-max pre (row head) (omega arith) (c .before .before .before .before .if1 .taken)),
+      (pre .edges-length, pre .masks-length, omega (arith, pre .room, head .loop .inv .kept .words)),
+      (
+        omega (arith, pre .depth-max, head .loop .inv .k-max),
+        omega (arith, pairs-left (c .before .before .before .before), size-take-max (entry head .args .path .now) (row head)),
+        entry-max pre (row head) (omega arith) (c .before .before .before .before .if1 .taken),
+      ),
     )
 
 loop-less : tie.Need-loop-less Inv-loop μ-loop
@@ -87,7 +91,7 @@ loop-again c =
     let head = c .before .before .before .before .before .before .before .before .before .before .before in
     let mapped = c .before .before .before .before .before .before .before .before .if1 .taken in
     let own = c .before .before .before .row-top .ensures in
-    level-counted (entry head .pre) (row head) (omega arith) (head .loop .inv) mapped (own .0) (own .1) (omega (arith, c .if3 .taken))
+    level-counted (entry head .pre) (row head) (omega arith) (head .loop .inv) mapped (own .0) (own .1) refl (omega (arith, c .if3 .taken))
 
 loop-less-2 : tie.Need-loop-less-2 Inv-loop μ-loop
 loop-less-2 c = search needs
@@ -97,7 +101,7 @@ loop-again-2 c =
     let head = c .before .before .before .before .before .before .before .before .before .before .before in
     let mapped = c .before .before .before .before .before .before .before .before .if1 .taken in
     let own = c .before .before .before .row-top .ensures in
-    level-counted (entry head .pre) (row head) (omega arith) (head .loop .inv) mapped (own .0) (own .1) (omega (arith, c .if3 .left))
+    level-counted (entry head .pre) (row head) (omega arith) (head .loop .inv) mapped (own .0) (own .1) refl (omega (arith, c .if3 .left))
 
 loop-less-3 : tie.Need-loop-less-3 Inv-loop μ-loop
 loop-less-3 c = search needs

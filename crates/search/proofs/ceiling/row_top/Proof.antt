@@ -11,17 +11,17 @@ use Rattle.bitset.specs.declared.Least.the-variants.{Member}
 use Rattle.bitset.proofs.LeastBelow.{leastAbove-Member}
 use Rattle.search.specs.Words.{levelWord, SameLevels, meetRows}
 use Rattle.search.proofs.Levels.{same-none, same-more, meetRows-same}
-use Rattle.search.proofs.NodeWords.{openRows-max, meetRows-max, pairs-max}
+use Rattle.search.proofs.NodeWords.{openRows-max, meetRows-max}
 use Rattle.search.proofs.RowTop.{RowHead, row-first, row-more, row-all}
 use Rattle.search.proofs.ceiling.row_top.Statement.{statement}
 use Rattle.search.proofs.ceiling.row_top.Tie as tie
 
 abbrev Inv-loop : tie.InvT-loop
-Inv-loop order edges masks path workspace₀ row pairs value word top₀ last₀ workspace top last =
-    RowHead order edges masks path workspace₀ row value top last × SameLevels pairs workspace₀ workspace
+Inv-loop edges masks workspace₀ row pairs value word top₀ last₀ workspace top last =
+    RowHead edges masks workspace₀ row pairs value top last × SameLevels pairs workspace₀ workspace
 
 abbrev μ-loop : tie.MeasureT-loop
-μ-loop order edges masks path workspace₀ row pairs value word top₀ last₀ workspace top last = 64 - last
+μ-loop edges masks workspace₀ row pairs value word top₀ last₀ workspace top last = 64 - last
 
 -- the function's entry, from the loop's head
 abbrev entry : tie.At-loop Inv-loop μ-loop → tie.Start Inv-loop μ-loop
@@ -32,28 +32,28 @@ abbrev rowWord : tie.At-loop Inv-loop μ-loop → ℕ
 rowWord c = let a = entry c .args in levelWord (a .workspace .now) (a .pairs) (a .row)
 
 level-word-requires : tie.Need-level-word-requires Inv-loop μ-loop
-level-word-requires c κs = omega (arith, pairs-max (c .before .before .before .before .pre .0))
+level-word-requires c κs = search needs
 
 add-top : tie.Need-add-top Inv-loop μ-loop
-add-top c = omega (arith, pairs-max (c .before .before .before .before .before .pre .0))
+add-top c = search needs
 
 add-count-open : tie.Need-add-count-open Inv-loop μ-loop
 add-count-open c = search needs
 
 count-open-requires : tie.Need-count-open-requires Inv-loop μ-loop
-count-open-requires c κs = omega (arith, pairs-max (c .before .before .before .before .before .before .pre .0))
+count-open-requires c κs = search needs
 
 add-top-2 : tie.Need-add-top-2 Inv-loop μ-loop
 add-top-2 c =
     let start = c .before .before .before .before .before .before .before in
     let a = start .args in
     let few = openRows-max (a .row + 1) (a .pairs) (a .workspace .now) in
-    omega (arith, start .pre, pairs-max (start .pre .0), c .count-open .ensures)
+    omega (arith, start .pre, c .count-open .ensures)
 
 loop-holds : tie.Need-loop-holds Inv-loop μ-loop
 loop-holds c =
     let start = c .before .before .before .before .before .before .before in
-    (rw (c .count-open .ensures) (row-first (start .pre .0) (start .pre .1 .0) (start .args .value) (start .pre .1 .1)), same-none _ _)
+    (rw (c .count-open .ensures) (row-first (start .args .value) (start .pre .1 .2)), same-none _ _)
 
 least-above-requires : tie.Need-least-above-requires Inv-loop μ-loop
 least-above-requires c κs = search needs
@@ -72,13 +72,13 @@ member c =
 add-above : tie.Need-add-above Inv-loop μ-loop
 add-above c =
     let start = entry (c .before .before .before .before) in
-    omega (arith, start .pre, pairs-max (start .pre .0))
+    omega (arith, start .pre)
 
 refine-requires : tie.Need-refine-requires Inv-loop μ-loop
 refine-requires c κs =
     let start = entry (c .before .before .before .before .before) in
     let least = leastAbove-Member _ _ (member (c .before)) in
-    omega (arith, start .pre, pairs-max (start .pre .0), least .below)
+    omega (arith, start .pre, least .below)
 
 -- the rows counted are those foretold from the level at entry
 counted : (c : tie.After-refine Inv-loop μ-loop)
@@ -92,7 +92,7 @@ add-above-2 c =
     let start = entry (c .before .before .before .before .before .before .before .before) in
     let a = start .args in
     let few = meetRows-max (a .edges .now) (a .masks .now) (a .row) (a .pairs) (c .before .before .before .before .before .v .given .0 .0) (a .workspace .now) in
-    omega (arith, start .pre, pairs-max (start .pre .0), counted (c .before .before))
+    omega (arith, start .pre, counted (c .before .before))
 
 loop-less : tie.Need-loop-less Inv-loop μ-loop
 loop-less c =
@@ -102,9 +102,8 @@ loop-less c =
 loop-again : tie.Need-loop-again Inv-loop μ-loop
 loop-again c =
     let head = c .before .before .before .before .before .before .before .before .before in
-    let pre = entry head .pre in
     let own = c .before .before .before .refine .ensures .0 .kept in (
-      row-more (pre .0) (pre .1 .0) (head .loop .inv .0) (member (c .before .before .before .before .before)) (omega (arith, c .if1 .taken, counted (c .before .before .before))),
+      row-more (head .loop .inv .0) (member (c .before .before .before .before .before)) (omega (arith, c .if1 .taken, counted (c .before .before .before))),
       same-more (head .loop .inv .1) _ (le-refl _) own,
     )
 
@@ -116,9 +115,8 @@ loop-less-2 c =
 loop-again-2 : tie.Need-loop-again-2 Inv-loop μ-loop
 loop-again-2 c =
     let head = c .before .before .before .before .before .before .before .before .before in
-    let pre = entry head .pre in
     let own = c .before .before .before .refine .ensures .0 .kept in (
-      row-more (pre .0) (pre .1 .0) (head .loop .inv .0) (member (c .before .before .before .before .before)) (omega (arith, c .if1 .left, counted (c .before .before .before))),
+      row-more (head .loop .inv .0) (member (c .before .before .before .before .before)) (omega (arith, c .if1 .left, counted (c .before .before .before))),
       same-more (head .loop .inv .1) _ (le-refl _) own,
     )
 
@@ -131,9 +129,8 @@ same-length c = search needs
 returns : tie.Need-returns Inv-loop μ-loop
 returns c =
     let head = c .before .before .before in
-    let pre = entry head .pre in
     let none = ap (λ (w : ℕ). leastAbove w (head .loop .last)) (sym (c .before .before .before .before .before .before .level-word .ensures)) ∙ sym (c .before .before .least-above .ensures) ∙ c .enum-told .given .1 in
-    (head .loop .inv .1, row-all (pre .0) (pre .1 .0) (head .loop .inv .0) none)
+    (head .loop .inv .1, row-all (head .loop .inv .0) none)
 
 pub row-top-spec : {M : Type 1} → statement M
 row-top-spec =

@@ -4,7 +4,7 @@ use mathlib.Core.Path.{_≡_, sym, _∙_}
 use mathlib.Core.Bool.{Bool, true, false, not}
 use borrow.Author.Needs.{needs}
 use borrow.Author.Tests.{not-true, not-false}
-use Rattle.search.proofs.ShapeInOrder.{deep-fails, path-fails, held-fails, steps-fails, rest-decides}
+use Rattle.search.proofs.ShapeInOrder.{deep-fails, path-fails, incumbent-fails, steps-fails, rest-decides}
 use Rattle.search.proofs.shape.in_shape.Statement.{statement}
 use Rattle.search.proofs.shape.in_shape.Tie as tie
 
@@ -15,8 +15,11 @@ failed r e taken = sym e ∙ not-true r taken
 passed : (r : Bool) {test : Bool} → r ≡ test → not r ≡ false → test ≡ true
 passed r e left = sym e ∙ not-false r left
 
+array-read-order : tie.Need-array-read-order
+array-read-order c = search needs
+
 returns : tie.Need-returns
-returns c = sym (deep-fails _ (c .before .before .before .before .before .before .args .checkpoint) (c .if1 .taken))
+returns c = sym (deep-fails _ (c .before .before .args .checkpoint) (c .if1 .taken))
 
 path-fits-requires : tie.Need-path-fits-requires
 path-fits-requires c κs = search needs
@@ -25,21 +28,21 @@ returns-2 : tie.Need-returns-2
 returns-2 c =
     let path = c .before in
     let depth = path .before in
-    let k = depth .before .before .before .before .before .before .args .checkpoint in
+    let k = depth .before .before .args .checkpoint in
     sym (path-fails _ k (depth .if1 .left) (failed (path .path-fits .result) (path .path-fits .ensures) (c .if2 .taken)))
 
-held-fits-requires : tie.Need-held-fits-requires
-held-fits-requires c κs = search needs
+incumbent-fits-requires : tie.Need-incumbent-fits-requires
+incumbent-fits-requires c κs = search needs
 
 returns-3 : tie.Need-returns-3
 returns-3 c =
     let held = c .before in
     let path = held .before .before in
     let depth = path .before in
-    let k = depth .before .before .before .before .before .before .args .checkpoint in
-    sym (held-fails _ k (depth .if1 .left)
+    let k = depth .before .before .args .checkpoint in
+    sym (incumbent-fails _ k (depth .if1 .left)
     (passed (path .path-fits .result) (path .path-fits .ensures) (held .before .if2 .left))
-    (failed (held .held-fits .result) (held .held-fits .ensures) (c .if3 .taken)))
+    (failed (held .incumbent-fits .result) (held .incumbent-fits .ensures) (c .if3 .taken)))
 
 steps-fit-requires : tie.Need-steps-fit-requires
 steps-fit-requires c κs = search needs
@@ -50,10 +53,10 @@ returns-4 c =
     let held = steps .before .before in
     let path = held .before .before in
     let depth = path .before in
-    let k = depth .before .before .before .before .before .before .args .checkpoint in
+    let k = depth .before .before .args .checkpoint in
     sym (steps-fails _ k (depth .if1 .left)
     (passed (path .path-fits .result) (path .path-fits .ensures) (held .before .if2 .left))
-    (passed (held .held-fits .result) (held .held-fits .ensures) (steps .before .if3 .left))
+    (passed (held .incumbent-fits .result) (held .incumbent-fits .ensures) (steps .before .if3 .left))
     (failed (steps .steps-fit .result) (steps .steps-fit .ensures) (c .if4 .taken)))
 
 rest-fits-requires : tie.Need-rest-fits-requires
@@ -65,21 +68,22 @@ returns-5 c =
     let held = steps .before .before in
     let path = held .before .before in
     let depth = path .before in
-    let k = depth .before .before .before .before .before .before .args .checkpoint in
+    let k = depth .before .before .args .checkpoint in
     c .rest-fits .ensures
     ∙ sym (rest-decides _ k (depth .if1 .left)
     (passed (path .path-fits .result) (path .path-fits .ensures) (held .before .if2 .left))
-    (passed (held .held-fits .result) (held .held-fits .ensures) (steps .before .if3 .left))
+    (passed (held .incumbent-fits .result) (held .incumbent-fits .ensures) (steps .before .if3 .left))
     (passed (steps .steps-fit .result) (steps .steps-fit .ensures) (c .before .if4 .left)))
 
 pub in-shape-spec : {M : Type 1} → statement M
 in-shape-spec =
     tie.close
     (tie.spec
+    array-read-order
     returns
     path-fits-requires
     returns-2
-    held-fits-requires
+    incumbent-fits-requires
     returns-3
     steps-fit-requires
     returns-4

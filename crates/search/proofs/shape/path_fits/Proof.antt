@@ -13,6 +13,9 @@ use borrow.Author.Needs.{needs}
 use Rattle.search.proofs.shape.path_fits.Statement.{statement}
 use Rattle.search.proofs.shape.path_fits.Tie as tie
 
+array-read-order : tie.Need-array-read-order
+array-read-order c = search needs
+
 filled-requires : tie.Need-filled-requires
 filled-requires c κs = search needs
 
@@ -21,7 +24,7 @@ array-share-prefix-entries c = search needs
 
 slice-aggregate-check-rows : tie.Need-slice-aggregate-check-rows
 slice-aggregate-check-rows c =
-    let start = c .before .before .before .before .before .before .before .before in
+    let start = c .before .before .before .before in
     let k = start .args .checkpoint in
     let small = start .pre .0 .old-sound .order-max in
     let long = filled-length (k .path) (k .depth) (start .pre .1 .1) (omega arith) in
@@ -37,7 +40,7 @@ returns : tie.Need-returns
 returns c =
     let call = c .before .before in
     let fill = call .before .before in
-    let start = fill .before .before .before .before .before .before .before in
+    let start = fill .before .before .before in
     let k = start .args .checkpoint in
     let answer = call .check-rows .result in
     sym (path-answer _ (start .pre .0) k (start .pre .1 .1) (start .pre .1 .0) _ answer (fill .filled .ensures) (call .check-rows .ensures)
@@ -47,7 +50,7 @@ returns-2 : tie.Need-returns-2
 returns-2 c =
     let call = c .before in
     let fill = call .before .before in
-    let start = fill .before .before .before .before .before .before .before in
+    let start = fill .before .before .before in
     let k = start .args .checkpoint in
     let answer = call .check-rows .result in
     sym (path-answer _ (start .pre .0) k (start .pre .1 .1) (start .pre .1 .0) _ answer (fill .filled .ensures) (call .check-rows .ensures)
@@ -57,6 +60,7 @@ pub path-fits-spec : {M : Type 1} → statement M
 path-fits-spec =
     tie.close
     (tie.spec
+    array-read-order
     filled-requires
     array-share-prefix-entries
     slice-aggregate-check-rows

@@ -5,7 +5,7 @@ use mathlib.Core.Logic.{inl, inr, ⊎-elim}
 use mathlib.Core.Bool.{cond}
 use Prim.Native.Nat.{_-_}
 use borrow.Author.Needs.{needs}
-use Rattle.graph.proofs.AllBelow.{PassedTo, passed-none, passed-more, passed-all, false-allBelow}
+use Rattle.bounded.proofs.AllBelow.{PassedTo, passed-none, passed-more, passed-all, false-allBelow}
 use Rattle.search.specs.Checkpoints.{restFits}
 use Rattle.search.proofs.UnusedBytes.{withBytes, rest-passes, path-nonzero, incumbent-nonzero}
 use Rattle.search.proofs.shape.rest_fits.Statement.{statement}

@@ -10,11 +10,11 @@ use Rattle.search.proofs.walk.rebuild.Statement.{statement}
 use Rattle.search.proofs.walk.rebuild.Tie as tie
 
 abbrev Inv-loop : tie.InvT-loop
-Inv-loop order edges masks path workspace₀ depth row₀ pairs₀ workspace row pairs =
-    RebuiltTo order edges masks path depth workspace₀ workspace row pairs
+Inv-loop edges masks path workspace₀ depth row₀ pairs₀ workspace row pairs =
+    RebuiltTo edges masks path depth workspace₀ workspace row pairs
 
 abbrev μ-loop : tie.MeasureT-loop
-μ-loop order edges masks path workspace₀ depth row₀ pairs₀ workspace row pairs = depth - row
+μ-loop edges masks path workspace₀ depth row₀ pairs₀ workspace row pairs = depth - row
 
 loop-holds : tie.Need-loop-holds Inv-loop μ-loop
 loop-holds c = rebuilt-none
@@ -38,7 +38,7 @@ refine-requires c κs =
       bounds .edges-length,
       bounds .masks-length,
       omega (arith, bounds .room, l .inv .kept-length),
-      omega (arith, bounds .depth-max, bounds .order-max),
+      omega (arith, bounds .depth-max),
       omega (arith, l .inv .pairs-are, size-take-max (start .args .path .now) (l .row)),
       entry-max bounds (l .row) (omega arith) (c .before .if1 .taken),
     )
@@ -62,7 +62,7 @@ loop-again c =
     let l = c .before .before .before .loop in
     ⊎-elim
     (λ w. rw (w .5, w .6)
-    (rebuilt-taken (bounds .path-length) (bounds .order-max) (bounds .depth-max) (omega arith) (w .0 .taken) (w .2 .ensures .0) (l .inv)))
+    (rebuilt-taken (bounds .path-length) (bounds .depth-max) (omega arith) (w .0 .taken) (w .2 .ensures .0) (l .inv)))
     (λ w. rw (w .1, w .2) (rebuilt-left-out (omega arith) (w .0 .left) (l .inv)))
     (c .if1 .came)
 

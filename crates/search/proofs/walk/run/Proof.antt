@@ -19,15 +19,13 @@ abbrev μ-loop : tie.MeasureT-loop
 loop-holds : tie.Need-loop-holds Inv-loop μ-loop
 loop-holds c =
     let start = c .before .before .before in
-    ran-none (start .pre .1 .0 .1) (start .pre .1 .1)
+    ran-none (start .pre .0 .1) (start .pre .1)
 
 same-length : tie.Need-same-length Inv-loop μ-loop
 same-length c = search needs
 
 returns : tie.Need-returns Inv-loop μ-loop
-returns c =
-    let l = c .before .before .loop in
-    (ran-finished (l .inv) (c .if1 .taken), l .inv .ready)
+returns c = ran-finished (c .before .before .loop .inv) (c .if1 .taken)
 
 step-requires : tie.Need-step-requires Inv-loop μ-loop
 step-requires c κs =
@@ -35,7 +33,14 @@ step-requires c κs =
     let l = head .before .loop in
     let busy = c .before .before .before .if1 .left in (
       ready-in-bounds (l .inv .lent .setting) (l .inv .lent .ready),
-      (l .inv .lent .ready .incumbent-length, busy, omega (arith, l .inv .counts busy, head .loop-test .taken)),
+      (
+        (
+          l .inv .lent .ready .incumbent-length,
+          omega (arith, l .inv .lent .ready .node .depth-max, l .inv .lent .setting .order-is),
+          omega (arith, l .inv .lent .setting .sound .old-sound .order-max, l .inv .lent .setting .order-is),
+        ),
+        (busy, omega (arith, l .inv .counts busy, head .loop-test .taken)),
+      ),
     )
 
 add-made : tie.Need-add-made Inv-loop μ-loop
@@ -55,9 +60,7 @@ same-length-2 : tie.Need-same-length-2 Inv-loop μ-loop
 same-length-2 c = search needs
 
 returns-2 : tie.Need-returns-2 Inv-loop μ-loop
-returns-2 c =
-    let l = c .before .loop in
-    (ran-all (l .inv) (c .loop-test .left), l .inv .ready)
+returns-2 c = ran-all (c .before .loop .inv) (c .loop-test .left)
 
 pub run-spec : {M : Type 1} → statement M
 run-spec =

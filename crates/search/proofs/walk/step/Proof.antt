@@ -24,7 +24,7 @@ returns c =
     let call = c .before .before .before .before .before .before in
     let start = call .before .before .before .before .before .before .before in
     let above = call .upper-bound in
-    visits-left (start .args .walk) (start .pre .1 .1) (above .kept .1 .1 .1 .1 .0) (above .ensures .0) (above .ensures .1 .0)
+    visits-left (start .args .walk) (start .pre .1 .1 .0) (above .kept .1 .1 .1 .0) (above .ensures .0)
     (c .before .before .before .if1 .taken) (c .retreat .ensures)
 
 hold-requires : tie.Need-hold-requires
@@ -33,15 +33,16 @@ hold-requires c κs = search needs
 retreat-requires-2 : tie.Need-retreat-requires-2
 retreat-requires-2 c κs =
     let call = c .before .before .before .before .before .before .before .before .before in
-    let bounds = call .before .before .before .before .before .before .before .pre .0 in
-    let kept = call .upper-bound .kept .1 .1 .1 .1 .0 in
-    ((bounds .order-max, bounds .path-length, omega (arith, bounds .room), bounds .depth-max, bounds .pairs-are), bounds .entry)
+    let pre = call .before .before .before .before .before .before .before .pre in
+    let bounds = pre .0 in
+    let kept = call .upper-bound .kept .1 .1 .1 .0 in
+    ((pre .1 .0 .2, bounds .path-length, omega (arith, bounds .room), pre .1 .0 .1, bounds .pairs-are), bounds .entry)
 
 add-t28 : tie.Need-add-t28
 add-t28 c =
     let call = c .before .before .before .before .before .before .before .before .before .before in
     let bounds = call .before .before .before .before .before .before .before .pre .0 in
-    omega (arith, pairs-max bounds, bounds .depth-max, bounds .order-max)
+    omega (arith, pairs-max bounds, bounds .depth-max)
 
 same-length-2 : tie.Need-same-length-2
 same-length-2 c = search needs
@@ -53,15 +54,16 @@ returns-2 c =
     let call = tests .before .before .before .before in
     let start = call .before .before .before .before .before .before .before in
     let above = call .upper-bound in
-    visits-held (start .args .walk) (start .pre .1 .1) (above .kept .1 .1 .1 .1 .0) (above .ensures .0) (above .ensures .1 .0)
+    visits-held (start .args .walk) (start .pre .1 .1 .0) (above .kept .1 .1 .1 .0) (above .ensures .0)
     (tests .before .if1 .left) (tests .if2 .taken) (held .hold .ensures) (c .retreat2 .ensures)
 
 descend-requires : tie.Need-descend-requires
 descend-requires c κs =
     let call = c .before .before .before .before .before .before in
-    let bounds = call .before .before .before .before .before .before .before .pre .0 in
-    let kept = call .upper-bound .kept .1 .1 .1 .1 .0 in
-    (bounds .order-max, bounds .path-length, omega (arith, bounds .room), omega (arith, bounds .depth-max), pairs-max bounds)
+    let pre = call .before .before .before .before .before .before .before .pre in
+    let bounds = pre .0 in
+    let kept = call .upper-bound .kept .1 .1 .1 .0 in
+    (pre .1 .0 .2, bounds .path-length, omega (arith, bounds .room), omega (arith, pre .1 .0 .1), pairs-max bounds)
 
 same-length-3 : tie.Need-same-length-3
 same-length-3 c = search needs
@@ -71,8 +73,8 @@ returns-3 c =
     let call = c .before .before .before .before .before .before .before in
     let start = call .before .before .before .before .before .before .before in
     let above = call .upper-bound in
-    visits-down (start .args .walk) (start .pre .1 .1) (above .kept .1 .1 .1 .1 .0) (above .ensures .0) (above .ensures .1 .0)
-    (c .before .before .before .before .if1 .left) (omega (arith, start .pre .0 .depth-max)) (c .descend .ensures)
+    visits-down (start .args .walk) (start .pre .1 .1 .0) (above .kept .1 .1 .1 .0) (above .ensures .0)
+    (c .before .before .before .before .if1 .left) (omega (arith, start .pre .1 .0 .1)) (c .descend .ensures)
 
 pub step-spec : {M : Type 1} → statement M
 step-spec =

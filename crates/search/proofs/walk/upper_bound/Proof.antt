@@ -6,9 +6,6 @@ use Prim.Native.Nat.{ℕ, _+_, _-_, _<_}
 use lib.ListN.{getD}
 use native.Mathlib.Omega.{arith}
 use borrow.Author.Needs.{needs}
-use Rattle.mapping.specs.Problem.{Problem}
-use Rattle.search.specs.Words.{Words}
-use Rattle.search.specs.Walking.{Setting, AtNode}
 use Rattle.search.proofs.NodeWords.{openRows-max, meetRows-max, size-take-max, pairs-max, entry-max, pairs-before, pairs-left-out, node-bound, node-root, node-left-out, node-taken, node-taken-bound}
 use Rattle.search.proofs.walk.upper_bound.Statement.{statement}
 use Rattle.search.proofs.walk.upper_bound.Tie as tie
@@ -32,11 +29,11 @@ returns c =
     let start = c .before .before .before .before .before .before in
     let root = c .before .before .if1 .taken in
     let a = start .args in (
-      λ P setting node. ap (λ (n : ℕ). a .pairs + n) (c .count-open .ensures) ∙ node-bound setting node (omega (arith, pairs-max (start .pre))) (node-root setting node root),
-      (
-        λ P setting node. node-root setting node root,
-        omega (arith, start .pre, pairs-max (start .pre), c .count-open .ensures, openRows-max (a .depth) (a .pairs) (a .workspace .now)),
-      ),
+      λ P setting node.
+          let words = node-root setting node root in
+          let few = pairs-max (start .pre) in
+          record { bound-is = ap (λ (n : ℕ). a .pairs + n) (c .count-open .ensures) ∙ node-bound setting node (omega arith) words; words = words },
+      omega (arith, start .pre, pairs-max (start .pre), c .count-open .ensures, openRows-max (a .depth) (a .pairs) (a .workspace .now)),
     )
 
 sub-row : tie.Need-sub-row
@@ -69,11 +66,11 @@ returns-2 c =
     let start = c .before .before .before .before .before .before .before .before in
     let out = c .before .before .if2 .taken in
     let a = start .args in (
-      λ P setting node. ap (λ (n : ℕ). a .pairs + n) (c .count-open2 .ensures) ∙ node-bound setting node (few-left-out (c .before .before)) (node-left-out setting node (omega arith) out),
-      (
-        λ P setting node. node-left-out setting node (omega arith) out,
-        omega (arith, start .pre, pairs-max (start .pre), c .count-open2 .ensures, openRows-max (a .depth) (a .pairs) (a .workspace .now)),
-      ),
+      λ P setting node.
+          let words = node-left-out setting node (omega arith) out in
+          let few = few-left-out (c .before .before) in
+          record { bound-is = ap (λ (n : ℕ). a .pairs + n) (c .count-open2 .ensures) ∙ node-bound setting node few words; words = words },
+      omega (arith, start .pre, pairs-max (start .pre), c .count-open2 .ensures, openRows-max (a .depth) (a .pairs) (a .workspace .now)),
     )
 
 sub-refine : tie.Need-sub-refine
@@ -93,7 +90,7 @@ refine-requires c κs =
       bounds .edges-length,
       bounds .masks-length,
       bounds .room,
-      omega (arith, bounds .depth-max, bounds .order-max),
+      omega (arith, bounds .depth-max),
       omega (arith, size-take-max (a .path .now) (a .depth - 1)),
       entry-max bounds (a .depth - 1) (omega arith) (c .before .if2 .left),
     )
@@ -112,16 +109,13 @@ returns-3 c =
     let start = c .before .before .before .before .before .before .before .before .before .before in
     let a = start .args in
     let mapped = c .before .before .before .before .if2 .left in
-    let made = c .before .before .refine in
-    let words : (P : Problem) → Setting P (a .order) (a .edges .now) (a .masks .now) → AtNode P (a .path .now) (a .depth) (a .pairs) (a .workspace .now)
-    → Words P (a .path .now) (a .depth) (made .last .1 .1 .0) =
-    λ P setting node. node-taken setting node (omega arith) mapped (made .ensures .0) in
-    let count = made .ensures .1 in (
-      λ P setting node. ap (λ (n : ℕ). a .pairs + n) count ∙ node-taken-bound setting node (omega arith) mapped,
-      (
-        words,
-        omega (arith, start .pre, pairs-max (start .pre), count, meetRows-max (a .edges .now) (a .masks .now) (a .depth - 1) (a .pairs - 1) (getD (a .path .now) (a .depth - 1) 0) (a .workspace .now)),
-      ),
+    let made = c .before .before .refine .ensures in
+    let count = made .1 in (
+      λ P setting node. record {
+        bound-is = ap (λ (n : ℕ). a .pairs + n) count ∙ node-taken-bound setting node (omega arith) mapped;
+        words = node-taken setting node (omega arith) mapped (made .0);
+      },
+      omega (arith, start .pre, pairs-max (start .pre), count, meetRows-max (a .edges .now) (a .masks .now) (a .depth - 1) (a .pairs - 1) (getD (a .path .now) (a .depth - 1) 0) (a .workspace .now)),
     )
 
 pub upper-bound-spec : {M : Type 1} → statement M

@@ -1,30 +1,32 @@
 -- `search::words::root_words` meets its contract: row by row the words are stored, and the rows that have one are gathered (`RootTurn`).
 -- Assumes nothing.
-use mathlib.Core.Path.{sym, _∙_}
+use mathlib.Core.Path.{_≡_, refl, sym, _∙_}
 use mathlib.Core.Logic.{⊎-elim}
 use Prim.Native.Nat.{_-_, _≤_}
 use native.Mathlib.Omega.{arith}
+use lib.ListN.{length, length-set}
 use borrow.Author.Needs.{needs}
 use borrow.Author.Tests.{not-true, not-false}
+use Rattle.problem.specs.Lent.{Tables, lent}
 use Rattle.search.proofs.RootTurn.{RootTo, root-none, root-more, root-skip, root-all}
 use Rattle.search.proofs.words.root_words.Statement.{statement}
 use Rattle.search.proofs.words.root_words.Tie as tie
 
 abbrev Inv-loop : tie.InvT-loop
-Inv-loop old-order old-labels new-order new-labels workspace₀ rows₀ r₀ workspace rows r =
-    (r ≤ old-order) × RootTo old-labels new-order new-labels workspace₀ workspace r rows
+Inv-loop labels workspace₀ orders order rows₀ r₀ workspace rows r =
+    (r ≤ order) × (length workspace ≡ length workspace₀) × ((edges : Tables) → RootTo (lent orders labels edges) workspace₀ workspace r rows)
 
 abbrev μ-loop : tie.MeasureT-loop
-μ-loop old-order old-labels new-order new-labels workspace₀ rows₀ r₀ workspace rows r = old-order - r
+μ-loop labels workspace₀ orders order rows₀ r₀ workspace rows r = order - r
+
+array-read-order : tie.Need-array-read-order Inv-loop μ-loop
+array-read-order c = search needs
 
 loop-holds : tie.Need-loop-holds Inv-loop μ-loop
-loop-holds c = let a = c .before .before .before .args in (search needs, root-none (a .old-labels .now) (a .new-order) (a .new-labels .now) (a .workspace .now))
+loop-holds c = let a = c .before .args in (search needs, refl, λ edges. root-none (lent (a .t1) (a .labels) edges) (a .workspace .now))
 
-shared-slice-read-label-word : tie.Need-shared-slice-read-label-word Inv-loop μ-loop
-shared-slice-read-label-word c = search needs
-
-label-word-requires : tie.Need-label-word-requires Inv-loop μ-loop
-label-word-requires c κs = search needs
+allowed-word-requires : tie.Need-allowed-word-requires Inv-loop μ-loop
+allowed-word-requires c κs = search needs
 
 mul-workspace : tie.Need-mul-workspace Inv-loop μ-loop
 mul-workspace c = search needs
@@ -46,14 +48,15 @@ loop-less c = search needs
 
 loop-again : tie.Need-loop-again Inv-loop μ-loop
 loop-again c =
-    let l = c .before .before .before .before .before .loop in
-    let a = c .before .before .before .before .before .before .before .before .before .args in
-    let word = c .before .before .label-word .ensures in
+    let l = c .before .before .before .before .loop in
+    let a = c .before .before .before .before .before .before .args in
+    let word = c .before .before .allowed-word .ensures in
     let tested = c .before .is-empty .ensures in (
       omega arith,
+      simp length-set (l .inv .1),
       ⊎-elim
-          (λ w. rw (w .2, w .1 .ensures) (root-more (a .old-labels .now) (a .new-order) (a .new-labels .now) (a .workspace .now) (l .inv .1) (omega arith) (omega arith) word (sym tested ∙ not-true _ (w .0 .taken))))
-          (λ w. rw (w .1) (root-skip (a .old-labels .now) (a .new-order) (a .new-labels .now) (a .workspace .now) (l .inv .1) (omega arith) (omega arith) word (sym tested ∙ not-false _ (w .0 .left))))
+          (λ w edges. rw (w .2, w .1 .ensures) (root-more (lent (a .t1) (a .labels) edges) (a .workspace .now) (l .inv .2 edges) (omega arith) (omega arith) (word edges) (sym tested ∙ not-true _ (w .0 .taken))))
+          (λ w edges. rw (w .1) (root-skip (lent (a .t1) (a .labels) edges) (a .workspace .now) (l .inv .2 edges) (omega arith) (omega arith) (word edges) (sym tested ∙ not-false _ (w .0 .left))))
           (c .if1 .came),
     )
 
@@ -64,10 +67,10 @@ same-length : tie.Need-same-length Inv-loop μ-loop
 same-length c = search needs
 
 returns : tie.Need-returns Inv-loop μ-loop
-returns c =
+returns c edges =
     let l = c .before .loop in
-    let a = c .before .before .before .before .before .args in
-    root-all (a .old-labels .now) (a .new-order) (a .new-labels .now) (a .workspace .now) (omega arith) (omega arith) (omega arith) (l .inv .1)
+    let a = c .before .before .before .args in
+    root-all (lent (a .t1) (a .labels) edges) (a .workspace .now) (omega arith) (omega arith) (omega arith) (l .inv .2 edges)
 
 pub root-words-spec : {M : Type 1} → statement M
 root-words-spec =
@@ -75,9 +78,9 @@ root-words-spec =
     (tie.spec
     Inv-loop
     μ-loop
+    array-read-order
     loop-holds
-    shared-slice-read-label-word
-    label-word-requires
+    allowed-word-requires
     mul-workspace
     slice-write-workspace
     is-empty-requires

@@ -1,0 +1,4 @@
+pub mod Choice
+pub mod Filled
+pub mod RefusalNumbers
+pub mod Stores

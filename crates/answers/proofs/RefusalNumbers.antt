@@ -1,0 +1,20 @@
+-- An answer that refuses by one of 01's numbers, 1 to 22, if it refuses.
+use Prim.Native.Nat.{ℕ, _≤_}
+use Rattle.answers.specs.Answer.{Answer, passed, accepted, refused, refusedAt}
+
+abbrev pub RefusalNumber : ℕ → Type 0
+RefusalNumber n = (1 ≤ n) × (n ≤ 22)
+
+-- an answer that has a value where it accepts
+abbrev pub Valued : Answer → Type 0
+Valued passed = ⊥
+Valued (accepted n) = Unit {0}
+Valued (refused number) = RefusalNumber number
+Valued (refusedAt number at) = RefusalNumber number
+
+-- one that has none
+abbrev pub Plain : Answer → Type 0
+Plain passed = Unit {0}
+Plain (accepted n) = ⊥
+Plain (refused number) = RefusalNumber number
+Plain (refusedAt number at) = RefusalNumber number

@@ -1,0 +1,6 @@
+pub mod Fuel
+pub mod Judge
+pub mod MadeReader
+pub mod ReadLoop
+pub mod ReadSound
+pub mod RefusalNumbers

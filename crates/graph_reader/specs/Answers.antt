@@ -1,0 +1,23 @@
+-- What the answer of reading says in 01's terms (01, "Refusals by place of checking", the rows "Tables lent" and "Any command" to "After the end").
+use Prim.Native.Nat.{ℕ}
+use Rattle.answers.specs.Answer.{Answer, accepted, refused, refusedAt}
+use Rattle.graph_reader.specs.declared.Fault.{Fault}
+use Rattle.graph_reader.specs.declared.Fault.the-variants as fault
+use Rattle.graph_reader.specs.declared.ReadAnswer.{ReadAnswer}
+use Rattle.graph_reader.specs.declared.ReadAnswer.the-variants as read
+
+abbrev pub faultNumber : Fault → ℕ
+faultNumber fault.Truncated = 1
+faultNumber fault.UnknownCommand = 2
+faultNumber fault.ZeroLabel = 3
+faultNumber fault.TooManyVertices = 4
+faultNumber fault.MissingVertex = 5
+faultNumber fault.SelfEdge = 6
+faultNumber fault.NullEdge = 7
+faultNumber fault.RepeatedEdge = 8
+faultNumber fault.TrailingBytes = 9
+
+abbrev pub readAnswer : ReadAnswer → Answer
+readAnswer (read.Order n) = accepted n
+readAnswer read.Tables = refused 10
+readAnswer (read.Refused f at) = refusedAt (faultNumber f) at

@@ -1,0 +1,73 @@
+// The command reader: the lent graph bytes along with the place of the next command.
+// The borrow checker covers no function over a struct that holds a reference, so these are few and thin: `command_at` and `place_after`, which are covered, do
+// the work, and `next_command` and `next_place`, whose parameters are plain, serve every caller.
+
+use super::commands;
+use super::commands::Command;
+ghost use mathlib.Core.Path.{_≡_};
+ghost use Prim.Native.Nat.{_+_, _≤_, _<_, _^_};
+ghost use lib.ListN.{length};
+ghost use Rattle.graph_reader.specs.Commands.{width as widthOf};
+ghost use Rattle.graph_reader.specs.Cursor.{commandAt, placeAfter};
+
+pub struct Reader<'a> {
+    pub bytes: &'a [u8],
+    pub at: usize,
+}
+
+// The command at a place: the bytes from there on are handed to the decode.
+pub fn command_at(bytes: &[u8], at: usize) -> Command
+    requires { ⌜ at ≤ length (now bytes) ⌝ }
+    ensures { λ r. ⌜ r ≡ commandAt (now (bytes .entry)) at ⌝ }
+{
+    commands::decode(&bytes[at..])
+}
+
+// The place of the command after this one.
+pub fn place_after(at: usize, command: Command) -> usize
+    requires { ⌜ at + widthOf command < 2 ^ 64 ⌝ }
+    ensures { λ r. ⌜ r ≡ placeAfter at command ⌝ }
+{
+    at + commands::width(command)
+}
+
+// A reader of the bytes, at a place.
+pub fn new<'a>(bytes: &'a [u8], at: usize) -> Reader<'a>
+    ensures { λ r. ⌜ (r .bytes ≡ bytes .entry) × (r .at ≡ at) ⌝ }
+{
+    Reader { bytes, at }
+}
+
+// The command at the reader's place.
+pub fn next<'a>(r: Reader<'a>) -> Command
+    requires { ⌜ r .at ≤ length (now (r .bytes)) ⌝ }
+    ensures { λ c. ⌜ c ≡ commandAt (now (r .entry .bytes)) (r .entry .at) ⌝ }
+{
+    command_at(r.bytes, r.at)
+}
+
+// The reader past that command.
+pub fn moved<'a>(r: Reader<'a>, command: Command) -> Reader<'a>
+    requires { ⌜ r .at + widthOf command < 2 ^ 64 ⌝ }
+    ensures { λ q. ⌜ (q .bytes ≡ r .entry .bytes) × (q .at ≡ placeAfter (r .entry .at) command) ⌝ }
+{
+    let at = place_after(r.at, command);
+    Reader { bytes: r.bytes, at }
+}
+
+// The command at a place, by a reader.
+pub fn next_command(bytes: &[u8], at: usize) -> Command
+    requires { ⌜ at ≤ length (now bytes) ⌝ }
+    ensures { λ r. ⌜ r ≡ commandAt (now (bytes .entry)) at ⌝ }
+{
+    next(new(bytes, at))
+}
+
+// The place past a command, by a reader.
+pub fn next_place(bytes: &[u8], at: usize, command: Command) -> usize
+    requires { ⌜ at + widthOf command < 2 ^ 64 ⌝ }
+    ensures { λ r. ⌜ r ≡ placeAfter at command ⌝ }
+{
+    let r = moved(new(bytes, at), command);
+    r.at
+}

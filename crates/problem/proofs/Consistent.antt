@@ -1,0 +1,44 @@
+-- What the tests of one mapped row and of two ask, and that the test of two does not depend on which of them comes first.
+use mathlib.Core.Path.{_≡_, sym, ap₂, _∙_}
+use mathlib.Core.Logic.{_≢_}
+use mathlib.Core.Bool.{true, not, and-eq-true-iff}
+use Prim.Native.Nat.{ℕ, _<_}
+use lib.Dec.{ltb, eqb}
+use borrow.Author.Tests.{lt-ltb, ltb-true, ne-eqb, eqb-false, not-true}
+use Rattle.problem.specs.Problem.{Problem, SoundProblem, compareVertices, compareEdges, allowed, consistent}
+
+module _ (P : Problem) where
+  -- An old vertex may lie on w only where w is a new vertex and the labels agree.
+  pub allowed-facts : (v w : ℕ) → allowed P v w ≡ true → (w < P .new .order) × (compareVertices P v w ≡ true)
+  unfolding allowed
+  allowed-facts v w e =
+      let both = and-eq-true-iff (ltb w (P .new .order)) (compareVertices P v w) .0 e in (ltb-true w (P .new .order) (both .0), both .1)
+
+  -- Where w is a new vertex and the labels agree, an old vertex may lie on it.
+  pub facts-allowed : (v w : ℕ) → w < P .new .order → compareVertices P v w ≡ true → allowed P v w ≡ true
+  unfolding allowed
+  facts-allowed v w h e = rw (lt-ltb w (P .new .order) h) e
+
+  -- Two mapped rows may stand together only where their partners are two and the edges agree.
+  pub consistent-facts : (v w v′ w′ : ℕ) → consistent P v w v′ w′ ≡ true → (w ≢ w′) × (compareEdges P v v′ w w′ ≡ true)
+  unfolding consistent
+  consistent-facts v w v′ w′ e =
+      let both = and-eq-true-iff (not (eqb w w′)) (compareEdges P v v′ w w′) .0 e in
+      (eqb-false w w′ (not-true (eqb w w′) (both .0)), both .1)
+
+  -- Where their partners are two and the edges agree, two mapped rows may stand together.
+  pub facts-consistent : (v w v′ w′ : ℕ) → w ≢ w′ → compareEdges P v v′ w w′ ≡ true → consistent P v w v′ w′ ≡ true
+  unfolding consistent
+  facts-consistent v w v′ w′ ne e = rw (ne-eqb w w′ ne) e
+
+module _ (P : Problem) (s : SoundProblem P) where
+  -- Edges of sound graphs compare the same both ways.
+  pub edges-symmetric : (v v′ w w′ : ℕ) → v < 64 → v′ < 64 → w < 64 → w′ < 64 → compareEdges P v v′ w w′ ≡ compareEdges P v′ v w′ w
+  edges-symmetric v v′ w w′ hv hv′ hw hw′ = ap₂ eqb (s .old-sound .symmetric v v′ hv hv′) (s .new-sound .symmetric w w′ hw hw′)
+
+  -- Two rows may stand together in either order.
+  pub consistent-symmetric : (v w v′ w′ : ℕ) → v < 64 → v′ < 64 → w < 64 → w′ < 64
+      → consistent P v w v′ w′ ≡ true → consistent P v′ w′ v w ≡ true
+  consistent-symmetric v w v′ w′ hv hv′ hw hw′ e =
+      let both = consistent-facts P v w v′ w′ e in
+      facts-consistent P v′ w′ v w (λ q. both .0 (sym q)) (sym (edges-symmetric v v′ w w′ hv hv′ hw hw′) ∙ both .1)

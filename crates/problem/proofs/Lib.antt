@@ -1,0 +1,3 @@
+pub mod BothFit
+pub mod Consistent
+pub mod ProblemPasses

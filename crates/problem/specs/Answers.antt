@@ -1,0 +1,16 @@
+-- What each answer about two graphs says in 01's terms (01, "Refusals by place of checking").
+use Prim.Native.Nat.{ℕ}
+use Rattle.answers.specs.Answer.{Answer, passed, refused}
+use Rattle.problem.specs.declared.ProblemFlaw.{ProblemFlaw}
+use Rattle.problem.specs.declared.ProblemFlaw.the-variants as flaw
+use Rattle.problem.specs.declared.ProblemAnswer.{ProblemAnswer}
+use Rattle.problem.specs.declared.ProblemAnswer.the-variants as problem
+
+abbrev pub problemFlawNumber : ProblemFlaw → ℕ
+problemFlawNumber flaw.Tables = 10
+problemFlawNumber flaw.Labels = 11
+problemFlawNumber flaw.Edges = 12
+
+abbrev pub problemAnswerOf : ProblemAnswer → Answer
+problemAnswerOf problem.Sound = passed
+problemAnswerOf (problem.Flawed f) = refused (problemFlawNumber f)

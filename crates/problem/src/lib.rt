@@ -1,0 +1,87 @@
+// Two graphs to be compared: three arrays, of their orders, label tables and edge tables, each with the old graph's at 0 and the new graph's at 1.
+
+use graph::Flaw;
+use graph::Label;
+use graph::Soundness;
+ghost use mathlib.Core.Path.{_≡_};
+ghost use Prim.Native.Nat.{_<_};
+ghost use Rattle.graph.specs.Answers.{flawNumber};
+ghost use Rattle.graph.specs.Soundness.{soundness};
+ghost use Rattle.problem.specs.Problem.{bothFit, problemAnswer};
+ghost use Rattle.problem.specs.Lent.{graphAt, lent};
+ghost use Rattle.problem.specs.Answers.{problemFlawNumber, problemAnswerOf};
+
+pub type Orders = [usize; 2];
+
+pub type Labels<'a> = [&'a [Label]; 2];
+
+pub type Edges<'a> = [&'a [u8]; 2];
+
+// Why what is lent is no problem of two sound graphs.
+pub enum ProblemFlaw {
+    Tables,
+    Labels,
+    Edges,
+}
+
+// The answer of `check_problem`.
+pub enum ProblemAnswer {
+    Sound,
+    Flawed(ProblemFlaw),
+}
+
+// The document's number of a flaw.
+pub fn problem_flaw_number(flaw: ProblemFlaw) -> u8
+    ensures { λ r. ⌜ r ≡ problemFlawNumber flaw ⌝ }
+{
+    match flaw {
+        ProblemFlaw::Tables => 10,
+        ProblemFlaw::Labels => 11,
+        ProblemFlaw::Edges => 12,
+    }
+}
+
+// One graph's flaw.
+fn flawed(flaw: Flaw) -> ProblemFlaw
+    ensures { λ r. ⌜ problemFlawNumber r ≡ flawNumber flaw ⌝ }
+{
+    match flaw {
+        Flaw::Tables => ProblemFlaw::Tables,
+        Flaw::Labels => ProblemFlaw::Labels,
+        Flaw::Edges => ProblemFlaw::Edges,
+    }
+}
+
+// Whether the tables of both graphs have their lengths, and both orders are at most 64.
+pub fn both_fit<'a>(orders: Orders, labels: Labels<'a>, edges: Edges<'a>) -> bool
+    ensures { λ r. ⌜ r ≡ bothFit (lent orders (labels .entry) (edges .entry)) ⌝ }
+{
+    if !graph::tables_fit(orders[0], labels[0], edges[0]) {
+        return false;
+    }
+    graph::tables_fit(orders[1], labels[1], edges[1])
+}
+
+// The test of one of the two graphs.
+fn check_at<'a>(orders: Orders, labels: Labels<'a>, edges: Edges<'a>, which: usize) -> ProblemAnswer
+    requires { ⌜ which < 2 ⌝ }
+    ensures { λ r. ⌜ problemAnswerOf r ≡ soundness (graphAt orders (labels .entry) (edges .entry) which) ⌝ }
+{
+    match graph::check_graph(orders[which], labels[which], edges[which]) {
+        Soundness::Flawed(flaw) => ProblemAnswer::Flawed(flawed(flaw)),
+        Soundness::Sound => ProblemAnswer::Sound,
+    }
+}
+
+// Whether both sets of tables hold sound graphs; the lengths and orders of both come first, then the old graph.
+pub fn check_problem<'a>(orders: Orders, labels: Labels<'a>, edges: Edges<'a>) -> ProblemAnswer
+    ensures { λ r. ⌜ problemAnswerOf r ≡ problemAnswer (lent orders (labels .entry) (edges .entry)) ⌝ }
+{
+    if !both_fit(orders, labels, edges) {
+        return ProblemAnswer::Flawed(ProblemFlaw::Tables);
+    }
+    match check_at(orders, labels, edges, 0) {
+        ProblemAnswer::Flawed(flaw) => ProblemAnswer::Flawed(flaw),
+        ProblemAnswer::Sound => check_at(orders, labels, edges, 1),
+    }
+}

@@ -1,0 +1,2 @@
+pub mod ProblemReading
+pub mod Answers

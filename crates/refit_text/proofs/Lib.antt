@@ -1,0 +1,4 @@
+pub mod SearchReport
+pub mod GraphsPrinted
+pub mod RefitLength
+pub mod ProgramExample

@@ -1,0 +1,4 @@
+pub mod Reply
+pub mod Checked
+pub mod Resumed
+pub mod ReadOut

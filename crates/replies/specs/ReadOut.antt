@@ -1,0 +1,44 @@
+-- The reply to a reading out of checkpoint bytes: its state, steps and ceiling, and the mapping that it holds (01, "Bookmark and calls").
+use mathlib.Core.Bool.{cond}
+use mathlib.Core.List.{List}
+use Prim.Native.Nat.{ℕ}
+use lib.Dec.{leb}
+use lib.ListN.{length, take, replicate}
+use Rattle.answers.specs.Answer.{Answer, valueOf, whenPassed}
+use Rattle.answers.specs.Output.{overwrite}
+use Rattle.problem.specs.Problem.{Problem}
+use Rattle.mapping.specs.Common.{size}
+use Rattle.search.specs.declared.checkpoint.Checkpoint.{Checkpoint}
+use Rattle.search.specs.Call.{wordsNeeded, searchCall}
+use Rattle.checkpoint_bytes.specs.Saving.{stateByte}
+use Rattle.checkpoint_bytes.specs.Loading.{Loading, loading}
+use Rattle.replies.specs.declared.Reply.{Reply}
+use Rattle.replies.specs.Reply.{reply, replyOf, tooShort}
+
+-- the reply, the numbers, and the lent mapping afterwards
+pub record ReadOut : Type 0 where
+  pub reply : Reply
+  pub steps : ℕ
+  pub size : ℕ
+  pub ceiling : ℕ
+  pub mapping : List ℕ
+
+abbrev pub readOut : Reply → ℕ → ℕ → ℕ → List ℕ → ReadOut
+readOut r steps size ceiling mapping = record { reply = r; steps = steps; size = size; ceiling = ceiling; mapping = mapping }
+
+abbrev pub notReadOut : List ℕ → Reply → ReadOut
+notReadOut mapping r = readOut r 0 0 0 mapping
+
+-- state, steps, and what is held; the ceiling is that of a call that makes no visit
+unfoldable pub readCheckpoint : Problem → Checkpoint → List ℕ → ReadOut
+readCheckpoint P c mapping =
+    let held = take (P .old .order) (c .incumbent) in
+    readOut (reply 0 (stateByte (c .finished) (c .holds))) (c .steps) (cond (c .holds) (size held) 0)
+    (valueOf (searchCall P c 0 (replicate wordsNeeded 0) .answer)) (cond (c .holds) (overwrite held mapping) mapping)
+
+abbrev pub readLoaded : Problem → Loading → List ℕ → ReadOut
+readLoaded P l mapping = whenPassed (l .answer) (readCheckpoint P (l .checkpoint) mapping) (λ (refusal : Answer). notReadOut mapping (replyOf refusal))
+
+-- the lent mapping has room for 64 entries, tested first
+unfoldable pub readBytes : Problem → List ℕ → List ℕ → ReadOut
+readBytes P bytes mapping = cond (leb 64 (length mapping)) (readLoaded P (loading P bytes) mapping) (notReadOut mapping tooShort)

@@ -1,0 +1,234 @@
+// What a caller outside Rattle gets, in numbers: the reply to an answer, to a search call on checkpoint bytes, and to a reading out of them.
+
+mod held;
+mod values;
+
+use checkpoint_bytes::LoadAnswer;
+use checkpoint_bytes::SaveAnswer;
+use graph::MAX_ORDER;
+use graph_reader::ReadAnswer;
+use mapping::MappingAnswer;
+use problem::Edges;
+use problem::Labels;
+use problem::Orders;
+use search::Checkpoint;
+use search::SearchAnswer;
+use search::WORDS;
+ghost use mathlib.Core.Path.{_≡_};
+ghost use Prim.Native.Nat.{_≤_};
+ghost use lib.ListN.{length, getD};
+ghost use Rattle.graph_reader.specs.Answers.{readAnswer};
+ghost use Rattle.problem.specs.Lent.{lent};
+ghost use Rattle.mapping.specs.Answers.{mappingOutcome};
+ghost use Rattle.search.specs.Answers.{searchAnswer};
+ghost use Rattle.checkpoint_bytes.specs.Answers.{saveAnswer, loadAnswer};
+ghost use Rattle.replies.specs.Reply.{replyOf};
+ghost use Rattle.replies.specs.Checked.{checked, checkedBy};
+ghost use Rattle.replies.specs.Resumed.{resumed, searchFrom, resumeFrom};
+ghost use Rattle.replies.specs.ReadOut.{readOut, readCheckpoint, readBytes};
+
+// The document's number of a refusal, or 0, and the value that goes with it.
+pub struct Reply {
+    pub number: u32,
+    pub value: u64,
+}
+
+// A reply, and the earlier row.
+pub struct MappingReply {
+    pub reply: Reply,
+    pub earlier: u64,
+}
+
+// A reply, and the ceiling.
+pub struct ResumeReply {
+    pub reply: Reply,
+    pub ceiling: u64,
+}
+
+// A reply, whose value is the state, and a checkpoint's numbers.
+pub struct ReadReply {
+    pub reply: Reply,
+    pub steps: u64,
+    pub size: u64,
+    pub ceiling: u64,
+}
+
+pub fn of_read(answer: ReadAnswer) -> Reply
+    ensures { λ r. ⌜ r ≡ replyOf (readAnswer answer) ⌝ }
+{
+    Reply {
+        number: graph_reader::read_number(answer) as u32,
+        value: values::read_value(answer),
+    }
+}
+
+pub fn of_save(answer: SaveAnswer) -> Reply
+    ensures { λ r. ⌜ r ≡ replyOf (saveAnswer answer) ⌝ }
+{
+    Reply {
+        number: checkpoint_bytes::save_number(answer) as u32,
+        value: values::save_value(answer),
+    }
+}
+
+fn of_load(answer: LoadAnswer) -> Reply
+    ensures { λ r. ⌜ r ≡ replyOf (loadAnswer answer) ⌝ }
+{
+    Reply {
+        number: checkpoint_bytes::load_number(answer) as u32,
+        value: values::load_value(answer),
+    }
+}
+
+fn of_search(answer: SearchAnswer) -> Reply
+    ensures { λ r. ⌜ r ≡ replyOf (searchAnswer answer) ⌝ }
+{
+    Reply {
+        number: search::search_number(answer) as u32,
+        value: values::search_value(answer),
+    }
+}
+
+pub fn of_mapping(answer: MappingAnswer) -> MappingReply
+    ensures { λ r. ⌜ checked (r .reply) (r .earlier) ≡ checkedBy (mappingOutcome answer) ⌝ }
+{
+    MappingReply {
+        reply: Reply {
+            number: mapping::mapping_number(answer) as u32,
+            value: values::mapping_value(answer),
+        },
+        earlier: values::earlier_row(answer),
+    }
+}
+
+// The search call, and its checkpoint saved.
+fn search_and_save<'a>(
+    orders: Orders,
+    labels: Labels<'a>,
+    edges: Edges<'a>,
+    checkpoint: Checkpoint,
+    budget: u64,
+    workspace: &mut [u64],
+    next: &mut [u8],
+) -> ResumeReply
+    ensures { λ r. ⌜ resumed (r .reply) (r .ceiling) (now (workspace .exit)) (now (next .exit))
+        ≡ searchFrom (lent orders (labels .entry) (edges .entry)) checkpoint budget (now (workspace .entry)) (now (next .entry)) ⌝ }
+{
+    let searched = search::search(orders, labels, edges, checkpoint, budget, workspace);
+    let answer = searched.answer;
+    let advanced = searched.checkpoint;
+    match answer {
+        SearchAnswer::Ceiling(ceiling) => ResumeReply {
+            reply: of_save(checkpoint_bytes::save_checkpoint(
+                orders,
+                labels,
+                edges,
+                advanced,
+                next,
+            )),
+            ceiling: ceiling as u64,
+        },
+        _ => ResumeReply {
+            reply: of_search(answer),
+            ceiling: 0,
+        },
+    }
+}
+
+// The checkpoint loaded, the search call on it, and its checkpoint saved to the front of `next`; 270 bytes are always room enough.
+pub fn resume<'a>(
+    orders: Orders,
+    labels: Labels<'a>,
+    edges: Edges<'a>,
+    bytes: &[u8],
+    budget: u64,
+    workspace: &mut [u64],
+    next: &mut [u8],
+) -> ResumeReply
+    ensures { λ r. ⌜ resumed (r .reply) (r .ceiling) (now (workspace .exit)) (now (next .exit))
+        ≡ resumeFrom (lent orders (labels .entry) (edges .entry)) (now (bytes .entry)) budget (now (workspace .entry)) (now (next .entry)) ⌝ }
+{
+    let loaded = checkpoint_bytes::load_checkpoint(orders, labels, edges, bytes);
+    let answer = loaded.answer;
+    let checkpoint = loaded.checkpoint;
+    match answer {
+        LoadAnswer::InShape => search_and_save(
+            orders,
+            labels,
+            edges,
+            checkpoint,
+            budget,
+            workspace,
+            next,
+        ),
+        _ => ResumeReply {
+            reply: of_load(answer),
+            ceiling: 0,
+        },
+    }
+}
+
+// The numbers of a checkpoint, and what it holds.
+fn read_checkpoint<'a>(
+    orders: Orders,
+    labels: Labels<'a>,
+    edges: Edges<'a>,
+    checkpoint: Checkpoint,
+    mapping: &mut [u8],
+) -> ReadReply
+    requires { ⌜ (getD orders 0 0 ≤ 64) × (64 ≤ length (now mapping)) ⌝ }
+    ensures { λ r. ⌜ readOut (r .reply) (r .steps) (r .size) (r .ceiling) (now (mapping .exit))
+        ≡ readCheckpoint (lent orders (labels .entry) (edges .entry)) checkpoint (now (mapping .entry)) ⌝ }
+{
+    let mut workspace = [0u64; WORDS];
+    let searched = search::search(orders, labels, edges, checkpoint, 0, &mut workspace);
+    let answer = searched.answer;
+    let incumbent = checkpoint.incumbent;
+    let ceiling = values::search_value(answer);
+    let size = held::put_incumbent(checkpoint.holds, &incumbent, orders[0], mapping);
+    ReadReply {
+        reply: Reply {
+            number: 0,
+            value: checkpoint_bytes::state_byte(checkpoint.finished, checkpoint.holds) as u64,
+        },
+        steps: checkpoint.steps,
+        size,
+        ceiling,
+    }
+}
+
+// The checkpoint loaded, and read out; the mapping that it holds goes to the front of `mapping`, which has room for 64 entries.
+pub fn read_out<'a>(
+    orders: Orders,
+    labels: Labels<'a>,
+    edges: Edges<'a>,
+    bytes: &[u8],
+    mapping: &mut [u8],
+) -> ReadReply
+    ensures { λ r. ⌜ readOut (r .reply) (r .steps) (r .size) (r .ceiling) (now (mapping .exit))
+        ≡ readBytes (lent orders (labels .entry) (edges .entry)) (now (bytes .entry)) (now (mapping .entry)) ⌝ }
+{
+    if mapping.len() < MAX_ORDER {
+        return ReadReply {
+            reply: Reply {
+                number: 13,
+                value: 0,
+            },
+            steps: 0,
+            size: 0,
+            ceiling: 0,
+        };
+    }
+    let loaded = checkpoint_bytes::load_checkpoint(orders, labels, edges, bytes);
+    let answer = loaded.answer;
+    let checkpoint = loaded.checkpoint;
+    match answer {
+        LoadAnswer::InShape => read_checkpoint(orders, labels, edges, checkpoint, mapping),
+        _ => ReadReply {
+            reply: of_load(answer),
+            steps: 0,
+            size: 0,
+            ceiling: 0,
+        },
+    }
+}

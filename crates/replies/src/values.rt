@@ -1,0 +1,88 @@
+// The value that goes with an answer: its count, order, size or ceiling, or its place or row, and 0 where it has none.
+
+use checkpoint_bytes::LoadAnswer;
+use checkpoint_bytes::SaveAnswer;
+use graph_reader::ReadAnswer;
+use mapping::MappingAnswer;
+use search::SearchAnswer;
+ghost use mathlib.Core.Path.{_≡_};
+ghost use Rattle.answers.specs.Answer.{valueOf};
+ghost use Rattle.graph_reader.specs.Answers.{readAnswer};
+ghost use Rattle.mapping.specs.Answers.{mappingOutcome};
+ghost use Rattle.search.specs.Answers.{searchAnswer};
+ghost use Rattle.checkpoint_bytes.specs.Answers.{saveAnswer, loadAnswer};
+ghost use Rattle.replies.specs.Checked.{outcomeValue, earlierRow};
+
+pub fn read_value(answer: ReadAnswer) -> u64
+    ensures { λ r. ⌜ r ≡ valueOf (readAnswer answer) ⌝ }
+{
+    match answer {
+        ReadAnswer::Order(order) => order as u64,
+        ReadAnswer::Tables => 0,
+        ReadAnswer::Refused(_, at) => at as u64,
+    }
+}
+
+pub fn save_value(answer: SaveAnswer) -> u64
+    ensures { λ r. ⌜ r ≡ valueOf (saveAnswer answer) ⌝ }
+{
+    match answer {
+        SaveAnswer::Written(count) => count as u64,
+        SaveAnswer::Flawed(_) => 0,
+        SaveAnswer::OutOfShape => 0,
+        SaveAnswer::TooShort => 0,
+    }
+}
+
+pub fn load_value(answer: LoadAnswer) -> u64
+    ensures { λ r. ⌜ r ≡ valueOf (loadAnswer answer) ⌝ }
+{
+    match answer {
+        LoadAnswer::InShape => 0,
+        LoadAnswer::Flawed(_) => 0,
+        LoadAnswer::Malformed(at) => at as u64,
+        LoadAnswer::OutOfShape => 0,
+    }
+}
+
+pub fn search_value(answer: SearchAnswer) -> u64
+    ensures { λ r. ⌜ r ≡ valueOf (searchAnswer answer) ⌝ }
+{
+    match answer {
+        SearchAnswer::Ceiling(ceiling) => ceiling as u64,
+        SearchAnswer::Flawed(_) => 0,
+        SearchAnswer::OutOfShape => 0,
+        SearchAnswer::FewWords => 0,
+        SearchAnswer::ManySteps => 0,
+    }
+}
+
+// The size, or the row at fault.
+pub fn mapping_value(answer: MappingAnswer) -> u64
+    ensures { λ r. ⌜ r ≡ outcomeValue (mappingOutcome answer) ⌝ }
+{
+    match answer {
+        MappingAnswer::Common(size) => size as u64,
+        MappingAnswer::Flawed(_) => 0,
+        MappingAnswer::Length => 0,
+        MappingAnswer::NoVertex(row) => row.0 as u64,
+        MappingAnswer::SameImage(row, _) => row.0 as u64,
+        MappingAnswer::LabelsDiffer(row) => row.0 as u64,
+        MappingAnswer::EdgesDiffer(row, _) => row.0 as u64,
+    }
+}
+
+// The earlier row, where two rows clash.
+pub fn earlier_row(answer: MappingAnswer) -> u64
+    ensures { λ r. ⌜ r ≡ earlierRow (mappingOutcome answer) ⌝ }
+{
+    match answer {
+        MappingAnswer::Common(_) => 0,
+        MappingAnswer::Flawed(_) => 0,
+        MappingAnswer::Length => 0,
+        MappingAnswer::NoVertex(_) => 0,
+        MappingAnswer::SameImage(_, earlier) => earlier.0 as u64,
+        MappingAnswer::LabelsDiffer(_) => 0,
+        MappingAnswer::EdgesDiffer(_, earlier) => earlier.0 as u64,
+    }
+}
