@@ -1,87 +1,220 @@
 /* A search that goes on from run to run, through a file.
  *
- *     resume OLD NEW CHECKPOINT BUDGET
+ *     resume OLD NEW CHECKPOINT BUDGET [MINIMUM]
  *
- * OLD and NEW are graph files. Without a file CHECKPOINT the search starts, else it goes on from
- * there, for BUDGET visits. The checkpoint is saved back, and what it says is printed. To build it:
+ * OLD and NEW are graph files. Without a file CHECKPOINT the search starts, for mappings of at
+ * least MINIMUM vertices (0 to 255; 0 if not given), else it goes on from there; either way for
+ * BUDGET visits. The file is saved, and what the search says so far is printed. To build it:
  *
  *     cc -Iinclude examples/resume.c target/staticlib/libc_api.a -o resume
+ *
+ * BUDGET and MINIMUM are decimal numbers without sign or leading zero. A MINIMUM is refused if the
+ * search in the file started with another one, and a file is refused if it was saved for other
+ * graphs: a checkpoint alone does not tell of which graphs it is, and a finished one would give the
+ * answer for those. `refused NUMBER (VALUE)` is a refusal of include/golfcedar.h. A run that is
+ * refused leaves the file as it was.
+ *
+ * The file has three parts: the bytes of the old graph, of the new graph and of the checkpoint,
+ * each after its length, which takes two bytes, the lower first. The graphs stand there whole, so
+ * that nothing rests on a digest; they count as the same if their bytes are. examples/resume.rs
+ * reads and writes the same file.
  */
+#include <errno.h>
 #include <inttypes.h>
 #include <stdio.h>
 #include <stdlib.h>
+#include <string.h>
 
 #include "golfcedar.h"
 
-/* The bytes of a graph are at most 8,193: one more is enough to have a longer file refused. */
-struct file {
-    uint8_t bytes[8194];
+/* No graph has more bytes than this. */
+#define GRAPH_BYTES 8193
+#define SAVED_BYTES (2 + GRAPH_BYTES + 2 + GRAPH_BYTES + 2 + GOLFCEDAR_CHECKPOINT_BYTES)
+
+/* Room for every file that can be accepted, and a byte more by which a longer one is refused. */
+struct bytes {
+    uint8_t at[SAVED_BYTES + 1];
     size_t length;
 };
 
-static void fail(const char *what, const char *about)
+struct search {
+    struct bytes old, new, checkpoint;
+    const char *file;
+};
+
+struct reading {
+    uint8_t mapping[64];
+    uint64_t state, steps, size, ceiling;
+};
+
+static _Noreturn void fail(const char *what, const char *name, const char *why)
 {
-    fprintf(stderr, "%s: %s\n", about, what);
+    fprintf(stderr, "%s %s: %s\n", what, name, why);
     exit(EXIT_FAILURE);
 }
 
-static void accept_or_exit(uint32_t number, uint64_t value)
+static void accept_or_exit(const char *what, const char *name, uint32_t number, uint64_t value)
 {
     if (number != 0) {
-        fprintf(stderr, "refused %" PRIu32 " (%" PRIu64 ")\n", number, value);
+        fprintf(stderr, "%s %s: refused %" PRIu32 " (%" PRIu64 ")\n", what, name, number, value);
         exit(EXIT_FAILURE);
     }
 }
 
+/* A number is the word that it is printed as: so nothing else is taken for one. */
+static uint64_t number_or_exit(const char *what, const char *word, uint64_t largest)
+{
+    char printed[21];
+    uint64_t number = strtoull(word, NULL, 10);
+    snprintf(printed, sizeof printed, "%" PRIu64, number);
+    if (strcmp(printed, word) != 0 || number > largest) {
+        fprintf(stderr, "%s '%s': not a number from 0 to %" PRIu64 " in plain form\n", what, word,
+                largest);
+        exit(EXIT_FAILURE);
+    }
+    return number;
+}
+
 /* Answers 0 if there is no such file. */
-static int load(const char *name, struct file *file)
+static int load(const char *what, const char *name, struct bytes *bytes)
 {
     FILE *stream = fopen(name, "rb");
-    if (stream == NULL)
+    if (stream == NULL && errno == ENOENT)
         return 0;
-    file->length = fread(file->bytes, 1, sizeof file->bytes, stream);
+    if (stream == NULL)
+        fail(what, name, "cannot be read");
+    bytes->length = fread(bytes->at, 1, sizeof bytes->at, stream);
     if (ferror(stream))
-        fail("cannot be read", name);
+        fail(what, name, "cannot be read");
     fclose(stream);
     return 1;
 }
 
-/* Through a second file, so that a run that is cut short leaves the old checkpoint. */
-static void save(const char *name, const uint8_t *bytes, size_t length)
-{
-    char fresh[4096];
-    if ((size_t)snprintf(fresh, sizeof fresh, "%s.new", name) >= sizeof fresh)
-        fail("is too long a name", name);
-    FILE *stream = fopen(fresh, "wb");
-    if (stream == NULL)
-        fail("cannot be written", fresh);
-    size_t written = fwrite(bytes, 1, length, stream);
-    if (fclose(stream) != 0 || written != length || rename(fresh, name) != 0)
-        fail("cannot be saved", name);
-}
-
-static void start(const struct file *old, const struct file *new, struct file *checkpoint)
+static void load_graph(const char *what, const char *name, struct bytes *graph)
 {
     uint64_t value;
-    uint32_t number = golfcedar_start(old->bytes, old->length, new->bytes, new->length, 0,
-                                      checkpoint->bytes, sizeof checkpoint->bytes, &value);
-    accept_or_exit(number, value);
+    if (!load(what, name, graph))
+        fail(what, name, "cannot be read");
+    uint32_t number = golfcedar_check_graph(graph->at, graph->length, &value);
+    accept_or_exit(what, name, number, value);
+}
+
+/* The part of a saved file that begins at *place, which moves on. Answers 0 if it is cut off. */
+static int take_part(const struct bytes *saved, size_t *place, struct bytes *part)
+{
+    const uint8_t *from = saved->at + *place;
+    size_t left = saved->length - *place;
+    if (left < 2)
+        return 0;
+    part->length = from[0] + 256u * from[1];
+    if (left - 2 < part->length)
+        return 0;
+    memcpy(part->at, from + 2, part->length);
+    *place += 2 + part->length;
+    return 1;
+}
+
+static void put_part(struct bytes *saved, const struct bytes *part)
+{
+    uint8_t *to = saved->at + saved->length;
+    to[0] = part->length % 256;
+    to[1] = part->length / 256;
+    memcpy(to + 2, part->at, part->length);
+    saved->length += 2 + part->length;
+}
+
+static int same(const struct bytes *one, const struct bytes *other)
+{
+    return one->length == other->length && memcmp(one->at, other->at, one->length) == 0;
+}
+
+/* Answers 0 if there is no such file. */
+static int load_checkpoint(struct search *search)
+{
+    static struct bytes saved, old, new;
+    size_t place = 0;
+    if (!load("checkpoint", search->file, &saved))
+        return 0;
+    if (!take_part(&saved, &place, &old) || !take_part(&saved, &place, &new) ||
+        !take_part(&saved, &place, &search->checkpoint) || place != saved.length)
+        fail("checkpoint", search->file, "damaged, or not a file of this program");
+    if (!same(&old, &search->old))
+        fail("checkpoint", search->file, "saved for another old graph: name another file");
+    if (!same(&new, &search->new))
+        fail("checkpoint", search->file, "saved for another new graph: name another file");
+    return 1;
+}
+
+/* Through a second file, so that a run that is cut short leaves the old one. */
+static void save_checkpoint(const struct search *search)
+{
+    static struct bytes saved;
+    saved.length = 0;
+    put_part(&saved, &search->old);
+    put_part(&saved, &search->new);
+    put_part(&saved, &search->checkpoint);
+    char second[4096];
+    int length = snprintf(second, sizeof second, "%s.saving", search->file);
+    if (length < 0 || (size_t)length >= sizeof second)
+        fail("checkpoint", search->file, "too long a name");
+    FILE *stream = fopen(second, "wb");
+    if (stream == NULL)
+        fail("checkpoint", search->file, "cannot be saved");
+    size_t written = fwrite(saved.at, 1, saved.length, stream);
+    if (fclose(stream) != 0 || written != saved.length || rename(second, search->file) != 0)
+        fail("checkpoint", search->file, "cannot be saved");
+}
+
+static void start(struct search *search, uint8_t minimum)
+{
+    const struct bytes *old = &search->old, *new = &search->new;
+    struct bytes *checkpoint = &search->checkpoint;
+    uint64_t value;
+    uint32_t number = golfcedar_start(old->at, old->length, new->at, new->length, minimum,
+                                      checkpoint->at, sizeof checkpoint->at, &value);
+    accept_or_exit("checkpoint", search->file, number, value);
     checkpoint->length = value;
 }
 
-static void resume(const struct file *old, const struct file *new, struct file *checkpoint,
-                   uint64_t budget)
+static void resume(struct search *search, uint64_t budget)
 {
     static uint64_t workspace[GOLFCEDAR_WORKSPACE_WORDS];
-    static struct file next;
+    static struct bytes next;
+    const struct bytes *old = &search->old, *new = &search->new;
+    const struct bytes *checkpoint = &search->checkpoint;
     uint64_t value, ceiling;
-    uint32_t number = golfcedar_resume(old->bytes, old->length, new->bytes, new->length,
-                                       checkpoint->bytes, checkpoint->length, budget, workspace,
-                                       GOLFCEDAR_WORKSPACE_WORDS, next.bytes, sizeof next.bytes,
-                                       &value, &ceiling);
-    accept_or_exit(number, value);
+    uint32_t number = golfcedar_resume(old->at, old->length, new->at, new->length, checkpoint->at,
+                                       checkpoint->length, budget, workspace,
+                                       GOLFCEDAR_WORKSPACE_WORDS, next.at, sizeof next.at, &value,
+                                       &ceiling);
+    accept_or_exit("checkpoint", search->file, number, value);
     next.length = value;
-    *checkpoint = next;
+    search->checkpoint = next;
+}
+
+static struct reading read_out(const struct search *search)
+{
+    const struct bytes *old = &search->old, *new = &search->new;
+    const struct bytes *checkpoint = &search->checkpoint;
+    struct reading reading;
+    uint32_t number = golfcedar_read_out(old->at, old->length, new->at, new->length,
+                                         checkpoint->at, checkpoint->length, reading.mapping,
+                                         sizeof reading.mapping, &reading.state, &reading.steps,
+                                         &reading.size, &reading.ceiling);
+    accept_or_exit("checkpoint", search->file, number, reading.state);
+    return reading;
+}
+
+/* The second byte of checkpoint bytes that are accepted is the minimum. */
+static void same_minimum_or_exit(const struct search *search, uint64_t minimum)
+{
+    read_out(search);
+    uint8_t started = search->checkpoint.at[1];
+    if (started != minimum) {
+        fprintf(stderr, "checkpoint %s: started with minimum %d, not %" PRIu64 "\n", search->file,
+                started, minimum);
+        exit(EXIT_FAILURE);
+    }
 }
 
 static void print_mapping(const uint8_t *mapping, uint64_t order)
@@ -94,40 +227,43 @@ static void print_mapping(const uint8_t *mapping, uint64_t order)
     }
 }
 
-static void print(const struct file *old, const struct file *new, const struct file *checkpoint)
+static void print(const struct search *search)
 {
-    uint8_t mapping[64];
-    uint64_t state, steps, size, ceiling, order;
-    uint32_t number = golfcedar_read_out(old->bytes, old->length, new->bytes, new->length,
-                                         checkpoint->bytes, checkpoint->length, mapping,
-                                         sizeof mapping, &state, &steps, &size, &ceiling);
-    accept_or_exit(number, state);
-    int finished = state >= 2, held = state % 2 == 1;
-    printf("state %s\nsteps %" PRIu64 "\n", finished ? "finished" : "unfinished", steps);
+    struct reading reading = read_out(search);
+    int finished = reading.state >= 2, held = reading.state % 2 == 1;
+    printf("state %s\nsteps %" PRIu64 "\n", finished ? "finished" : "unfinished", reading.steps);
     if (held)
-        printf("size %" PRIu64 "\n", size);
+        printf("size %" PRIu64 "\n", reading.size);
     else
         printf("size none\n");
-    printf("ceiling %" PRIu64 "\n", ceiling);
-    if (finished && held) {
-        accept_or_exit(golfcedar_check_graph(old->bytes, old->length, &order), order);
-        print_mapping(mapping, order);
+    printf("ceiling %" PRIu64 "\n", reading.ceiling);
+    if (held) {
+        uint64_t order;
+        golfcedar_check_graph(search->old.at, search->old.length, &order);
+        print_mapping(reading.mapping, order);
     }
+    if (fflush(stdout) != 0 || ferror(stdout))
+        fail("standard", "output", "cannot be written");
 }
 
 int main(int count, char **arguments)
 {
-    static struct file old, new, checkpoint;
-    if (count != 5)
-        fail("needs OLD NEW CHECKPOINT BUDGET", arguments[0]);
-    if (!load(arguments[1], &old))
-        fail("cannot be read", arguments[1]);
-    if (!load(arguments[2], &new))
-        fail("cannot be read", arguments[2]);
-    if (!load(arguments[3], &checkpoint))
-        start(&old, &new, &checkpoint);
-    resume(&old, &new, &checkpoint, strtoull(arguments[4], NULL, 10));
-    save(arguments[3], checkpoint.bytes, checkpoint.length);
-    print(&old, &new, &checkpoint);
+    static struct search search;
+    if (count != 5 && count != 6)
+        fail("resume", "needs", "OLD NEW CHECKPOINT BUDGET [MINIMUM]");
+    uint64_t budget = number_or_exit("budget", arguments[4], UINT64_MAX);
+    uint64_t minimum = count == 6 ? number_or_exit("minimum", arguments[5], UINT8_MAX) : 0;
+    load_graph("old graph", arguments[1], &search.old);
+    load_graph("new graph", arguments[2], &search.new);
+    search.file = arguments[3];
+    if (!load_checkpoint(&search))
+        start(&search, minimum);
+    if (count == 6)
+        same_minimum_or_exit(&search, minimum);
+    /* A file that cannot be saved is better known before a long search than after it. */
+    save_checkpoint(&search);
+    resume(&search, budget);
+    save_checkpoint(&search);
+    print(&search);
     return EXIT_SUCCESS;
 }

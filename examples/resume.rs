@@ -1,90 +1,219 @@
 //! A search that goes on from run to run, through a file.
 //!
-//!     resume OLD NEW CHECKPOINT BUDGET
+//!     resume OLD NEW CHECKPOINT BUDGET [MINIMUM]
 //!
-//! OLD and NEW are graph files. Without a file CHECKPOINT the search starts, else it goes on from
-//! there, for BUDGET visits. The checkpoint is saved back, and what it says is printed. Build it in
+//! OLD and NEW are graph files. Without a file CHECKPOINT the search starts, for mappings of at
+//! least MINIMUM vertices (0 to 255; 0 if not given), else it goes on from there; either way for
+//! BUDGET visits. The file is saved, and what the search says so far is printed. Build it in
 //! `harness/` with `cargo build --bin resume`.
+//!
+//! BUDGET and MINIMUM are decimal numbers without sign or leading zero. A MINIMUM is refused if the
+//! search in the file started with another one, and a file is refused if it was saved for other
+//! graphs: a checkpoint alone does not tell of which graphs it is, and a finished one would give
+//! the answer for those. `refused NUMBER (VALUE)` is a refusal of include/golfcedar.h. A run that
+//! is refused leaves the file as it was.
+//!
+//! The file has three parts: the bytes of the old graph, of the new graph and of the checkpoint,
+//! each after its length, which takes two bytes, the lower first. The graphs stand there whole, so
+//! that nothing rests on a digest; they count as the same if their bytes are. examples/resume.c
+//! reads and writes the same file.
 
 use std::env;
-use std::error::Error;
+use std::fmt::Display;
 use std::fs;
 use std::io::ErrorKind;
+use std::process::ExitCode;
+use std::str::FromStr;
 
 use harness::answer::Answer;
 use harness::library::{self, CHECKPOINT_BYTES, MAX_VERTICES, UNMAPPED, WORKSPACE_WORDS};
 
-fn main() -> Result<(), Box<dyn Error>> {
+fn main() -> ExitCode {
     let arguments: Vec<String> = env::args().skip(1).collect();
-    let [old, new, file, budget] = &arguments[..] else {
-        return Err("needs OLD NEW CHECKPOINT BUDGET".into());
-    };
-    let graphs = Graphs {
-        old: fs::read(old)?,
-        new: fs::read(new)?,
-    };
-    let checkpoint = match fs::read(file) {
-        Ok(checkpoint) => checkpoint,
-        Err(error) if error.kind() == ErrorKind::NotFound => graphs.start()?,
-        Err(error) => return Err(error.into()),
-    };
-    let next = graphs.resume(&checkpoint, budget.parse()?)?;
-    save(file, &next)?;
-    graphs.print(&next)
+    match run(&arguments) {
+        Ok(()) => ExitCode::SUCCESS,
+        Err(message) => {
+            eprintln!("{message}");
+            ExitCode::FAILURE
+        }
+    }
 }
 
-/// Through a second file, so that a run that is cut short leaves the old checkpoint.
-fn save(file: &str, checkpoint: &[u8]) -> Result<(), Box<dyn Error>> {
-    let fresh = format!("{file}.new");
-    fs::write(&fresh, checkpoint)?;
-    Ok(fs::rename(fresh, file)?)
+fn run(arguments: &[String]) -> Result<(), String> {
+    let (old, new, file, budget, minimum) = match arguments {
+        [old, new, file, budget] => (old, new, file, budget, None),
+        [old, new, file, budget, minimum] => (old, new, file, budget, Some(minimum)),
+        _ => return Err("resume needs: OLD NEW CHECKPOINT BUDGET [MINIMUM]".into()),
+    };
+    let budget = number("budget", budget, u64::MAX)?;
+    let minimum = match minimum {
+        Some(word) => Some(number("minimum", word, u8::MAX)?),
+        None => None,
+    };
+    let mut search = Search {
+        old: load_graph("old graph", old)?,
+        new: load_graph("new graph", new)?,
+        checkpoint: Vec::new(),
+        file,
+    };
+    if !search.load()? {
+        search.start(minimum.unwrap_or(0))?;
+    }
+    if let Some(minimum) = minimum {
+        search.check_minimum(minimum)?;
+    }
+    // A file that cannot be saved is better known before a long search than after it.
+    search.save()?;
+    search.resume(budget)?;
+    search.save()?;
+    search.print()
 }
 
-fn accepted(answer: Answer) -> Result<Answer, Box<dyn Error>> {
+/// A number is the word that it is printed as: so nothing else is taken for one.
+fn number<N: FromStr + Display>(what: &str, word: &str, largest: N) -> Result<N, String> {
+    match word.parse::<N>() {
+        Ok(number) if number.to_string() == word => Ok(number),
+        _ => Err(format!(
+            "{what} '{word}': not a number from 0 to {largest} in plain form"
+        )),
+    }
+}
+
+fn load_graph(what: &str, name: &str) -> Result<Vec<u8>, String> {
+    let graph = fs::read(name).map_err(|_| format!("{what} {name}: cannot be read"))?;
+    accepted(what, name, library::check_graph(&graph))?;
+    Ok(graph)
+}
+
+fn accepted(what: &str, name: &str, answer: Answer) -> Result<Answer, String> {
     if answer.is_accepted() {
         Ok(answer)
     } else {
-        Err(format!("refused {} ({})", answer.number, answer.value).into())
+        Err(format!(
+            "{what} {name}: refused {} ({})",
+            answer.number, answer.value
+        ))
     }
 }
 
-/// The bytes of the two graphs.
-struct Graphs {
+/// The three parts of a saved file, if it is in the form.
+fn parts(mut saved: &[u8]) -> Option<[&[u8]; 3]> {
+    let parts = [
+        take_part(&mut saved)?,
+        take_part(&mut saved)?,
+        take_part(&mut saved)?,
+    ];
+    saved.is_empty().then_some(parts)
+}
+
+fn take_part<'a>(saved: &mut &'a [u8]) -> Option<&'a [u8]> {
+    let (&length, rest) = saved.split_first_chunk()?;
+    let (part, rest) = rest.split_at_checked(u16::from_le_bytes(length).into())?;
+    *saved = rest;
+    Some(part)
+}
+
+fn put_part(saved: &mut Vec<u8>, part: &[u8]) {
+    saved.extend((part.len() as u16).to_le_bytes());
+    saved.extend(part);
+}
+
+/// The bytes of two graphs and of a checkpoint, and the file where these are kept.
+struct Search<'a> {
     old: Vec<u8>,
     new: Vec<u8>,
+    checkpoint: Vec<u8>,
+    file: &'a str,
 }
 
-impl Graphs {
-    fn start(&self) -> Result<Vec<u8>, Box<dyn Error>> {
-        let mut checkpoint = vec![0; CHECKPOINT_BYTES];
-        let answer = accepted(library::start(&self.old, &self.new, 0, &mut checkpoint))?;
-        checkpoint.truncate(answer.value as usize);
-        Ok(checkpoint)
+impl Search<'_> {
+    fn failure(&self, why: impl Display) -> String {
+        format!("checkpoint {}: {why}", self.file)
     }
 
-    fn resume(&self, checkpoint: &[u8], budget: u64) -> Result<Vec<u8>, Box<dyn Error>> {
+    fn accepted(&self, answer: Answer) -> Result<Answer, String> {
+        accepted("checkpoint", self.file, answer)
+    }
+
+    /// Answers false if there is no such file.
+    fn load(&mut self) -> Result<bool, String> {
+        let saved = match fs::read(self.file) {
+            Ok(saved) => saved,
+            Err(error) if error.kind() == ErrorKind::NotFound => return Ok(false),
+            Err(_) => return Err(self.failure("cannot be read")),
+        };
+        let Some([old, new, checkpoint]) = parts(&saved) else {
+            return Err(self.failure("damaged, or not a file of this program"));
+        };
+        if old != self.old {
+            return Err(self.failure("saved for another old graph: name another file"));
+        }
+        if new != self.new {
+            return Err(self.failure("saved for another new graph: name another file"));
+        }
+        self.checkpoint = checkpoint.to_vec();
+        Ok(true)
+    }
+
+    /// Through a second file, so that a run that is cut short leaves the old one.
+    fn save(&self) -> Result<(), String> {
+        let mut saved = Vec::new();
+        put_part(&mut saved, &self.old);
+        put_part(&mut saved, &self.new);
+        put_part(&mut saved, &self.checkpoint);
+        let second = format!("{}.saving", self.file);
+        fs::write(&second, saved)
+            .and_then(|()| fs::rename(second, self.file))
+            .map_err(|_| self.failure("cannot be saved"))
+    }
+
+    fn start(&mut self, minimum: u8) -> Result<(), String> {
+        let mut checkpoint = vec![0; CHECKPOINT_BYTES];
+        let answer = library::start(&self.old, &self.new, minimum, &mut checkpoint);
+        checkpoint.truncate(self.accepted(answer)?.value as usize);
+        self.checkpoint = checkpoint;
+        Ok(())
+    }
+
+    fn resume(&mut self, budget: u64) -> Result<(), String> {
         let mut workspace = vec![0; WORKSPACE_WORDS];
         let mut next = vec![0; CHECKPOINT_BYTES];
-        let answer = accepted(library::resume(
+        let answer = library::resume(
             &self.old,
             &self.new,
-            checkpoint,
+            &self.checkpoint,
             budget,
             &mut workspace,
             &mut next,
-        ))?;
-        next.truncate(answer.value as usize);
-        Ok(next)
+        );
+        next.truncate(self.accepted(answer)?.value as usize);
+        self.checkpoint = next;
+        Ok(())
     }
 
-    fn print(&self, checkpoint: &[u8]) -> Result<(), Box<dyn Error>> {
-        let mut mapping = [0; MAX_VERTICES];
-        let answer = accepted(library::read_out(
+    fn read_out(&self, mapping: &mut [u8]) -> Result<Answer, String> {
+        self.accepted(library::read_out(
             &self.old,
             &self.new,
-            checkpoint,
-            &mut mapping,
-        ))?;
+            &self.checkpoint,
+            mapping,
+        ))
+    }
+
+    /// The second byte of checkpoint bytes that are accepted is the minimum.
+    fn check_minimum(&self, minimum: u8) -> Result<(), String> {
+        self.read_out(&mut [0; MAX_VERTICES])?;
+        let started = self.checkpoint[1];
+        if started == minimum {
+            Ok(())
+        } else {
+            Err(self.failure(format!("started with minimum {started}, not {minimum}")))
+        }
+    }
+
+    fn print(&self) -> Result<(), String> {
+        let mut mapping = [0; MAX_VERTICES];
+        let answer = self.read_out(&mut mapping)?;
         let (finished, held) = (answer.value >= 2, answer.value % 2 == 1);
         println!("state {}", if finished { "finished" } else { "unfinished" });
         println!("steps {}", answer.steps);
@@ -94,8 +223,8 @@ impl Graphs {
             println!("size none")
         }
         println!("ceiling {}", answer.ceiling);
-        if finished && held {
-            let order = accepted(library::check_graph(&self.old))?.value as usize;
+        if held {
+            let order = library::check_graph(&self.old).value as usize;
             print_mapping(&mapping[..order]);
         }
         Ok(())

@@ -5,6 +5,7 @@
  * Graphs, mappings and checkpoints are plain bytes; README.md has their forms. The caller owns every buffer: nothing is kept after
  * a call returns, nothing is allocated. A pointer with a length of 0 may be any non-null pointer. What is written, buffers and number
  * results alike, must not overlap anything else that is lent to the same call. A call uses at most 320 kibibytes of stack (tested, not proved).
+ * Several threads may call at the same time, if what one call writes is lent to no other call meanwhile; what calls only read may be shared.
  *
  * Every function answers 0 where it accepts, else a refusal's number, and always stores all of its number results (`value`, `earlier`,
  * `steps`, `size`, `ceiling`): those that a refusal does not give become 0. A refusal changes no other memory that was lent.
@@ -50,7 +51,8 @@ extern "C" {
 uint32_t golfcedar_check_graph(const uint8_t *graph, size_t graph_len, uint64_t *value);
 
 /* Is this mapping, one byte for each old vertex, a common subgraph? Accepted: *value is its size, *earlier is 0.
- * Refused: 1 to 9; 18; 19 to 22. */
+ * Refused: 1 to 9; 18; 19 to 22. So it also tells why a vertex cannot stay: map it to the new vertex in question, and the number and the rows
+ * say what is against it. */
 uint32_t golfcedar_check_mapping(const uint8_t *old_graph, size_t old_len, const uint8_t *new_graph, size_t new_len,
                                  const uint8_t *mapping, size_t mapping_len, uint64_t *value, uint64_t *earlier);
 
