@@ -7,8 +7,10 @@
  * results alike, must not overlap anything else that is lent to the same call. A call uses at most 320 kibibytes of stack (tested, not proved).
  * Several threads may call at the same time, if what one call writes is lent to no other call meanwhile; what calls only read may be shared.
  *
- * Every function answers 0 where it accepts, else a refusal's number, and always stores all of its number results (`value`, `earlier`,
- * `steps`, `size`, `ceiling`): those that a refusal does not give become 0. A refusal changes no other memory that was lent.
+ * Every function returns 0 where it accepts, else a refusal's number. They are tested in the order in which the function names them, graph bytes command by
+ * command and a mapping row by row, and the first condition met gives the number. The number results (`value`, `earlier`, `steps`, `size`, `ceiling`) are the
+ * rest of the answer, and every call writes all of them: accepted, what the function says; refused, `value` as below, and `earlier` with 20 and 22; and 0 where
+ * the answer says nothing. A refusal changes none of the buffers that were lent (`checkpoint`, `workspace`, `next`, `mapping`).
  *
  *    number  refused because                                                             value
  *    1       of a graph's bytes: operands are cut off, or the end is missing             place
@@ -17,7 +19,7 @@
  *    5 to 8  an edge of a vertex not yet given; of a vertex with itself; with label 0;
  *            given already                                                               place
  *    9       bytes after the end                                                         place
- *    13      a buffer for output is too short                                            0
+ *    13      what is to be written does not fit into its buffer                          0
  *    14      the checkpoint is not in shape for these two graphs                         0
  *    15      fewer than 4,160 workspace words                                            0
  *    16      unfinished, and steps + budget above 2^64 - 1                               0
@@ -57,21 +59,22 @@ uint32_t golfcedar_check_mapping(const uint8_t *old_graph, size_t old_len, const
                                  const uint8_t *mapping, size_t mapping_len, uint64_t *value, uint64_t *earlier);
 
 /* A search that has not begun: only mappings of at least `minimum` vertices will be found. Accepted: its checkpoint stands in the first
- * *value bytes of `checkpoint`, and later bytes are untouched. Refused: 13 if `checkpoint` has fewer than 270 bytes, before all else; 1 to 9. */
+ * *value bytes of `checkpoint`, and later bytes are untouched. Refused: 1 to 9; 13 if it does not fit, never with 270 bytes. */
 uint32_t golfcedar_start(const uint8_t *old_graph, size_t old_len, const uint8_t *new_graph, size_t new_len, uint8_t minimum,
                          uint8_t *checkpoint, size_t checkpoint_len, uint64_t *value);
 
 /* Goes on with a search for `budget` visits, fewer only if it finishes. `checkpoint` has exactly the bytes that an earlier call wrote.
  * Accepted: the next checkpoint stands in the first *value bytes of `next`, later bytes are untouched; every common subgraph has fewer than
  * *ceiling vertices (if the search began with `golfcedar_start` on the same two graphs); the first 4,160 words of `workspace` are 0, later words
- * are untouched. Refused: 13 if `next` has fewer than 270 bytes, before all else, so that no visit is lost; 1 to 9; 17; 14; 15; 16. */
+ * are untouched. Refused: 1 to 9; 17; 14; 15; 16; 13 if the next checkpoint does not fit, never with 270 bytes. How long it is shows only when the visits
+ * are made, so lend 270: after 13 the search stands where it stood, and the visits have to be made again. */
 uint32_t golfcedar_resume(const uint8_t *old_graph, size_t old_len, const uint8_t *new_graph, size_t new_len,
                           const uint8_t *checkpoint, size_t checkpoint_len, uint64_t budget, uint64_t *workspace, size_t workspace_words,
                           uint8_t *next, size_t next_len, uint64_t *value, uint64_t *ceiling);
 
 /* What a checkpoint says. Accepted: *value is its state (0 unfinished, 1 unfinished with a mapping held, 2 finished, 3 finished with one), *steps the
  * visits made, *ceiling as `golfcedar_resume` gives it. If a mapping is held, *size is its size, and one byte for each old vertex is stored to `mapping`;
- * else *size is 0 and `mapping` is untouched. Refused: 13 if `mapping` has fewer than 64 bytes, before all else; 1 to 9; 17; 14. */
+ * else *size is 0 and `mapping` is untouched. Refused: 1 to 9; 17; 14; 13 if a mapping is held and has more bytes than `mapping`, never with 64 bytes. */
 uint32_t golfcedar_read_out(const uint8_t *old_graph, size_t old_len, const uint8_t *new_graph, size_t new_len,
                             const uint8_t *checkpoint, size_t checkpoint_len, uint8_t *mapping, size_t mapping_len, uint64_t *value,
                             uint64_t *steps, uint64_t *size, uint64_t *ceiling);

@@ -1,20 +1,26 @@
 //! The same walk made fast: the yardstick for the time of the proved search.
 //!
-//! - For each number of pairs on the path there is a list of the rows that have candidates, with
-//!   their candidate words. A row that is left out changes no list, and a node's upper bound is
-//!   the pairs plus the rest of its list.
-//! - A pair meets each row of the list with one mask: the new vertices whose edge to the paired one
+//! - For each number of pairs on the path there is a level: the candidate word of each row. Beside
+//!   the words goes the set of the rows that have candidates, and the upper bound. A row that is
+//!   left out changes no word.
+//! - A pair meets each row of the set with one mask: the new vertices whose edge to the paired one
 //!   has the label of the old edge.
+//! - A node is left early. Its bound is its parent's, less one for each row that loses its last
+//!   candidate. The rows with an edge to the row just mapped come first, since most losses are
+//!   among them. If they leave the bound below the cutoff, the others are not looked at; else these
+//!   all meet one mask, that of the null edges.
 //!
 //! Each visit is made, by one call of `visit`. To pass a run of rows without candidates at once was
 //! a fifth faster, but then the time of a visit would say little.
+
+use std::array;
 
 use crate::reference::{entries_from_bytes, Checkpoint, Problem, MAX_VERTICES, UNMAPPED};
 
 pub struct Search {
     tables: Tables,
     /// By the number of pairs on the path.
-    levels: Vec<Level>,
+    levels: Box<[Level; MAX_VERTICES + 1]>,
     /// One for each pair on the path.
     choices: [Choice; MAX_VERTICES],
     minimum: u8,
@@ -24,45 +30,60 @@ pub struct Search {
     incumbent: Option<Vec<u8>>,
 }
 
+/// The candidate word of each row that had candidates on the level before.
+type Level = [u64; MAX_VERTICES];
+
 /// The next node, and the cutoff that it meets: what changes with each visit, by value so that it
 /// can stay in registers.
 #[derive(Clone, Copy)]
 struct Next {
     pairs: usize,
     depth: usize,
-    /// Where in its level's list the undecided rows begin.
-    at: usize,
+    open: Open,
     cutoff: usize,
 }
 
-/// The rows with candidates, rising. The word after the last is 0.
-#[derive(Clone)]
-struct Level {
-    rows: [u8; MAX_VERTICES + 1],
-    words: [u64; MAX_VERTICES + 1],
-    len: usize,
+/// The undecided rows that have candidates, and the upper bound. Below the cutoff both may be too
+/// great: the node is left, whatever they are.
+#[derive(Clone, Copy, Default)]
+struct Open {
+    rows: u64,
+    bound: usize,
 }
 
-/// A row that takes one candidate after the other: its place in the list, and those to come.
+/// A row that takes one candidate after the other: those to come, and what is open after the row
+/// if no later row loses its last candidate.
 #[derive(Clone, Copy, Default)]
 struct Choice {
-    at: usize,
+    row: usize,
     rest: u64,
+    open: Open,
 }
 
 struct Tables {
     order: usize,
-    /// The class of each old edge. Classes number the labels of old edges, the null edge's too.
+    /// For each old vertex: the rows to meet first, those with an edge to it. Where edges are many
+    /// it is all rows: a second loop then costs more in mispredictions than it saves.
+    first: Vec<u64>,
+    /// The class of each old edge. Classes number the labels of old edges, the null edge's first.
     classes: Vec<[u8; MAX_VERTICES]>,
     class_count: usize,
     /// For each new vertex and class: the other new vertices with an edge of that class to it.
     masks: Vec<u64>,
 }
 
+const NULL_CLASS: usize = 0;
+/// Edges are many if more than one pair of vertices in so many has one.
+const MANY_EDGES: usize = 6;
+
 impl Search {
     pub fn start(problem: &Problem, minimum: u8) -> Search {
-        let mut levels = vec![Level::empty(); problem.old.order() + 1];
-        levels[0] = Level::root(problem);
+        let mut levels = Box::new([[0; MAX_VERTICES]; MAX_VERTICES + 1]);
+        levels[0] = root(problem);
+        let open = Open {
+            rows: set((0..MAX_VERTICES).filter(|&row| levels[0][row] != 0)),
+            bound: levels[0].iter().filter(|&&word| word != 0).count(),
+        };
         Search {
             tables: Tables::new(problem),
             levels,
@@ -72,7 +93,7 @@ impl Search {
             next: Some(Next {
                 pairs: 0,
                 depth: 0,
-                at: 0,
+                open,
                 cutoff: minimum.into(),
             }),
             incumbent: None,
@@ -92,23 +113,22 @@ impl Search {
 
     #[inline(always)]
     fn visit(&mut self, mut node: Next) -> Option<Next> {
-        let level = &self.levels[node.pairs];
-        let open_rows = level.len - node.at;
-        if node.pairs + open_rows >= node.cutoff {
-            if open_rows == 0 {
-                if node.depth < self.tables.order {
-                    node.depth += 1;
-                    return Some(node);
-                }
+        if node.open.bound >= node.cutoff {
+            if node.depth == self.tables.order {
                 self.incumbent = Some(self.path(node));
                 node.cutoff = node.pairs + 1;
+            } else if node.open.rows >> node.depth & 1 == 0 {
+                node.depth += 1;
+                return Some(node);
             } else {
-                if node.depth < level.rows[node.at].into() {
-                    node.depth += 1;
-                    return Some(node);
-                }
-                let (at, rest) = (node.at, level.words[node.at]);
-                self.choices[node.pairs] = Choice { at, rest };
+                self.choices[node.pairs] = Choice {
+                    row: node.depth,
+                    rest: self.levels[node.pairs][node.depth],
+                    open: Open {
+                        rows: node.open.rows & (node.open.rows - 1),
+                        bound: node.open.bound,
+                    },
+                };
                 node.pairs += 1;
             }
         }
@@ -122,20 +142,20 @@ impl Search {
             return None;
         }
         let choice = &mut self.choices[node.pairs - 1];
-        let (before, after) = self.levels.split_at_mut(node.pairs);
-        let from = &before[node.pairs - 1];
-        let row = usize::from(from.rows[choice.at]);
-        node.depth = row + 1;
-        node.at = choice.at + 1;
+        node.depth = choice.row + 1;
+        node.open = choice.open;
         if choice.rest == 0 {
             node.pairs -= 1;
+            node.open.bound -= 1;
             return Some(node);
         }
         let vertex = choice.rest.trailing_zeros() as usize;
         choice.rest &= choice.rest - 1;
-        let masks = self.tables.masks_of(vertex);
-        after[0].refine(from, node.at, masks, &self.tables.classes[row]);
-        node.at = 0;
+        let [from, to, ..] = &mut self.levels[node.pairs - 1..] else {
+            unreachable!("a level for each number of pairs");
+        };
+        let pair = (choice.row, vertex);
+        node.open = (self.tables).refine((from, to), pair, choice.open, node.cutoff);
         Some(node)
     }
 
@@ -143,8 +163,8 @@ impl Search {
     fn path(&self, node: Next) -> Vec<u8> {
         let mut path = vec![UNMAPPED; node.depth];
         for (level, choice) in self.levels.iter().zip(&self.choices[..node.pairs]) {
-            let taken = level.words[choice.at] & !choice.rest;
-            path[usize::from(level.rows[choice.at])] = taken.ilog2() as u8;
+            let taken = level[choice.row] & !choice.rest;
+            path[choice.row] = taken.ilog2() as u8;
         }
         path
     }
@@ -161,80 +181,33 @@ impl Search {
         }
     }
 
+    /// A bound below the cutoff, exact or not, has no say in it.
     pub fn ceiling(&self) -> usize {
         let Some(next) = self.next else {
             return self.checkpoint().cutoff();
         };
-        let bound = next.pairs + self.levels[next.pairs].len - next.at;
-        let later = (0..next.pairs).map(|pairs| self.greatest_later_bound(pairs));
-        next.cutoff.max(1 + later.fold(bound, usize::max))
+        let later = (0..next.pairs).map(|pairs| self.greatest_later_bound(pairs, next.cutoff));
+        next.cutoff.max(1 + later.fold(next.open.bound, usize::max))
     }
 
     /// Over the later siblings of the node that the choice after so many pairs leads to.
-    fn greatest_later_bound(&self, pairs: usize) -> usize {
+    fn greatest_later_bound(&self, pairs: usize, cutoff: usize) -> usize {
         let (from, choice) = (&self.levels[pairs], self.choices[pairs]);
-        let row: usize = from.rows[choice.at].into();
-        let mut child = Level::empty();
-        let paired = members(choice.rest).map(|vertex| {
-            let masks = self.tables.masks_of(vertex);
-            child.refine(from, choice.at + 1, masks, &self.tables.classes[row]);
-            pairs + 1 + child.len
+        let mut child = [0; MAX_VERTICES];
+        let paired = Members(choice.rest).map(|vertex| {
+            let pair = (choice.row, vertex);
+            let open = (self.tables).refine((from, &mut child), pair, choice.open, cutoff);
+            open.bound
         });
-        let left_out = pairs + from.len - (choice.at + 1);
+        let left_out = choice.open.bound - 1;
         paired.fold(left_out, usize::max)
     }
 }
 
-impl Level {
-    fn empty() -> Level {
-        Level {
-            rows: [0; MAX_VERTICES + 1],
-            words: [0; MAX_VERTICES + 1],
-            len: 0,
-        }
-    }
-
-    fn root(problem: &Problem) -> Level {
-        let Problem { old, new } = problem;
-        let mut level = Level::empty();
-        for row in 0..old.order() {
-            let alike = (0..new.order()).filter(|&vertex| new.label(vertex) == old.label(row));
-            let word = alike.fold(0, |word, vertex| word | 1 << vertex);
-            if word != 0 {
-                level.rows[level.len] = row as u8;
-                level.words[level.len] = word;
-                level.len += 1;
-            }
-        }
-        level
-    }
-
-    /// The rows of `from` after its first `start` that keep a candidate. Two at a time and without
-    /// a branch: an early stop costs more in mispredictions than it saves.
-    #[inline(always)]
-    fn refine(&mut self, from: &Level, start: usize, masks: &[u64], classes: &[u8; MAX_VERTICES]) {
-        let mut len = 0;
-        let mut first = start;
-        while first < from.len {
-            for place in [first, first + 1] {
-                // SAFETY: `place` is at most `from.len`, and `len` at most `place`; lists have 65
-                // places. A row is below 64, and each class has a mask. The word at `from.len` is
-                // 0, so that `len` does not rise there.
-                unsafe {
-                    let row = *from.rows.get_unchecked(place);
-                    let class = *classes.get_unchecked(usize::from(row));
-                    let mask = *masks.get_unchecked(usize::from(class));
-                    let word = from.words.get_unchecked(place) & mask;
-                    *self.rows.get_unchecked_mut(len) = row;
-                    *self.words.get_unchecked_mut(len) = word;
-                    len += usize::from(word != 0);
-                }
-            }
-            first += 2;
-        }
-        self.words[len] = 0;
-        self.len = len;
-    }
+fn root(problem: &Problem) -> Level {
+    let Problem { old, new } = problem;
+    let alike = |row| set((0..new.order()).filter(|&vertex| new.label(vertex) == old.label(row)));
+    array::from_fn(|row| if row < old.order() { alike(row) } else { 0 })
 }
 
 impl Tables {
@@ -244,9 +217,15 @@ impl Tables {
         labels.sort();
         labels.dedup();
         let class_of = |label| labels.binary_search(&label).ok();
+        let mut first = vec![0; old.order()];
         let mut classes = vec![[0; MAX_VERTICES]; old.order()];
-        for (a, b) in pairs_of(old.order()) {
-            classes[a][b] = class_of(old.edge(a, b)).expect("a label of the old graph") as u8;
+        for (a, b, label) in old.edges() {
+            first[a] |= 1 << b;
+            classes[a][b] = class_of(label).expect("a label of the old graph") as u8;
+        }
+        let pairs = old.order() * old.order() / 2;
+        if old.edges().count() > pairs / MANY_EDGES {
+            first.fill(u64::MAX);
         }
         let mut masks = vec![0; labels.len() * new.order()];
         for (v, u) in pairs_of(new.order()) {
@@ -256,15 +235,49 @@ impl Tables {
         }
         Tables {
             order: old.order(),
+            first,
             classes,
             class_count: labels.len(),
             masks,
         }
     }
 
+    /// What is open after `row` took `vertex`, with its words in `to`. A bound below the cutoff may
+    /// be too great, and then has no words. No loop stops in its midst: that was not faster.
     #[inline(always)]
-    fn masks_of(&self, vertex: usize) -> &[u64] {
-        &self.masks[vertex * self.class_count..]
+    fn refine(
+        &self,
+        (from, to): (&Level, &mut Level),
+        (row, vertex): (usize, usize),
+        mut open: Open,
+        cutoff: usize,
+    ) -> Open {
+        let masks = &self.masks[vertex * self.class_count..];
+        let classes = &self.classes[row];
+        let near = open.rows & self.first[row];
+        let far = open.rows & !near;
+        for r in Members(near) {
+            to[r] = from[r] & masks[usize::from(classes[r])];
+            open.close_if(to[r] == 0, r);
+        }
+        if open.bound < cutoff {
+            return open;
+        }
+        let mask = masks[NULL_CLASS];
+        for r in Members(far) {
+            to[r] = from[r] & mask;
+            open.close_if(to[r] == 0, r);
+        }
+        open
+    }
+}
+
+impl Open {
+    /// The row is one of the set.
+    #[inline(always)]
+    fn close_if(&mut self, empty: bool, row: usize) {
+        self.rows ^= u64::from(empty) << row;
+        self.bound -= usize::from(empty);
     }
 }
 
@@ -275,6 +288,23 @@ fn pairs_of(order: usize) -> impl Iterator<Item = (usize, usize)> {
         .filter(|(a, b)| a != b)
 }
 
-fn members(word: u64) -> impl Iterator<Item = usize> {
-    (0..64).filter(move |bit| word >> bit & 1 == 1)
+fn set(members: impl Iterator<Item = usize>) -> u64 {
+    members.fold(0, |word, member| word | 1 << member)
+}
+
+/// The members of a set, rising.
+struct Members(u64);
+
+impl Iterator for Members {
+    type Item = usize;
+
+    #[inline(always)]
+    fn next(&mut self) -> Option<usize> {
+        if self.0 == 0 {
+            return None;
+        }
+        let least = self.0.trailing_zeros() as usize;
+        self.0 &= self.0 - 1;
+        Some(least)
+    }
 }

@@ -9,6 +9,7 @@ pub mod call;
 pub mod cases;
 pub mod fast;
 pub mod library;
+pub mod panels;
 pub mod random;
 pub mod reference;
 pub mod scenarios;

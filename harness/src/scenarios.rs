@@ -2,6 +2,7 @@
 //! made by the library and by the second implementation.
 
 use std::collections::BTreeMap;
+use std::ops::RangeInclusive;
 
 use crate::answer::Answer;
 use crate::brute;
@@ -25,10 +26,11 @@ pub struct Kind {
     scenario: Scenario,
 }
 
-pub const KINDS: [Kind; 9] = [
-    kind("graph", 240, graph),
+pub const KINDS: [Kind; 10] = [
+    kind("graph", 200, graph),
     kind("mapping", 200, mapping),
     kind("start", 50, start),
+    kind("room", 40, room),
     kind("crafted", 180, crafted),
     kind("damaged", 160, damaged),
     kind("small", 140, small),
@@ -122,6 +124,55 @@ fn start(judge: &mut Judge, random: &mut Random) -> Verdict<()> {
         checkpoint: output(random, CHECKPOINT_BYTES, 20),
     };
     judge.compare(call).map(drop)
+}
+
+/// Outputs of every length near the one needed, alone and with other things wrong.
+fn room(judge: &mut Judge, random: &mut Random) -> Verdict<()> {
+    let problem = cases::problem(random, 0..8);
+    let fresh = Checkpoint::fresh(random.within(0..4) as u8);
+    let cut = advance(&problem, &fresh, random.within(0..60) as u64);
+    let budget = random.within(0..60) as u64;
+    let caller = Caller::with(random, &problem, cut.save());
+
+    let saved = advance(&problem, &cut, budget).save().len();
+    for length in near(saved) {
+        let mut call = caller.resume_call(random, budget);
+        if random.percent(30) {
+            spoil(random, &mut call, cut.steps);
+        }
+        call.next = pattern(random, length, CHECKPOINT_BYTES);
+        judge.compare(Call::Resume(call))?;
+    }
+    let held = cut.incumbent.as_ref().map_or(0, Vec::len);
+    for length in near(held) {
+        let mut call = caller.resume_call(random, 0);
+        if random.percent(30) {
+            spoil(random, &mut call, cut.steps);
+        }
+        judge.compare(Call::ReadOut {
+            old: call.old,
+            new: call.new,
+            checkpoint: call.checkpoint,
+            mapping: pattern(random, length, MAX_VERTICES),
+        })?;
+    }
+    for length in near(fresh.save().len()) {
+        let (mut old, mut new) = (caller.old.clone(), caller.new.clone());
+        if random.percent(30) {
+            damage_graph(random, &mut old, &mut new);
+        }
+        judge.compare(Call::Start {
+            old,
+            new,
+            minimum: fresh.minimum,
+            checkpoint: pattern(random, length, CHECKPOINT_BYTES),
+        })?;
+    }
+    Ok(())
+}
+
+fn near(needed: usize) -> RangeInclusive<usize> {
+    needed.saturating_sub(3)..=needed + 2
 }
 
 /// Checkpoints that no walk made, in shape or nearly so.
@@ -400,7 +451,12 @@ fn output(random: &mut Random, least: usize, too_few: usize) -> Buffer<u8> {
     } else {
         least + random.pick(&[0, 0, 1, 30])
     };
-    Buffer::filled(random.pick(&[0x55, 0xAA]), length, least)
+    pattern(random, length, least)
+}
+
+/// A buffer of so many bytes that holds a pattern.
+fn pattern(random: &mut Random, length: usize, needed: usize) -> Buffer<u8> {
+    Buffer::filled(random.pick(&[0x55, 0xAA]), length, needed)
 }
 
 /// So many words, none of them 0 but by luck.

@@ -1,9 +1,9 @@
 -- How many numbers pass a test: the laws of the count.
 use mathlib.Core.Path.{_≡_, refl, ap₂}
-use mathlib.Core.Bool.{Bool, true, false}
-use mathlib.Core.Logic.{_↔_}
+use mathlib.Core.Bool.{Bool, true, false, not, _&&_}
+use mathlib.Core.Logic.{_↔_, _≢_, ⊎-elim}
 use Prim.Native.Nat.{ℕ, zero, suc, _+_, _≤_, _<_, zero-le}
-use native.Mathlib.Nat.{le-refl, add-le-add}
+use native.Mathlib.Nat.{le-refl, add-le-add, not-suc-le-zero, le-of-suc-le-suc, eq-or-lt-of-le}
 use native.Mathlib.Omega.{arith}
 use borrow.Author.Count.{below-none, below-more}
 use Rattle.bitset.specs.Count.{countBelow}
@@ -49,3 +49,31 @@ countBelow-zero (suc k) t = (
   λ e i h. below-more (λ j. t j ≡ false) k (countBelow-zero k t .0 (omega arith)) (digit-zero (t k) (omega arith)) i (omega arith),
   λ none. rw (none k (le-refl (suc k)), countBelow-zero k t .1 (λ i h. none i (omega arith))) refl,
 )
+
+-- One more number passes, and the count is one more.
+pub countBelow-one : (k m : ℕ) (t u : ℕ → Bool) → m < k → t m ≡ false → u m ≡ true → ((i : ℕ) → i < k → i ≢ m → t i ≡ u i)
+    → countBelow k u ≡ countBelow k t + 1
+unfolding countBelow
+countBelow-one zero m t u h fails passes same = absurd (not-suc-le-zero h)
+countBelow-one (suc k) m t u h fails passes same =
+    ⊎-elim
+    (λ (e : m ≡ k).
+    let below = countBelow-congr k t u (λ i l. same i (omega arith) (λ q. omega arith)) in
+    rw (← e, fails, passes) (rw e (omega arith)))
+    (λ (l : m < k).
+    let below = countBelow-one k m t u l fails passes (λ i b n. same i (omega arith) n) in
+    rw (same k (le-refl (suc k)) (λ q. omega arith)) (omega arith))
+    (eq-or-lt-of-le (le-of-suc-le-suc h))
+
+-- Of the numbers that pass a test, those that pass another and those that fail it are all.
+pub countBelow-parts : (k : ℕ) (t u : ℕ → Bool) → countBelow k (λ i. t i && u i) + countBelow k (λ i. t i && not (u i)) ≡ countBelow k t
+unfolding countBelow
+countBelow-parts zero t u = refl
+countBelow-parts (suc k) t u = go (t k) (u k) (countBelow-parts k t u)
+  where
+    go : (a b : Bool) → countBelow k (λ i. t i && u i) + countBelow k (λ i. t i && not (u i)) ≡ countBelow k t
+        → (countBelow k (λ i. t i && u i) + digit (a && b)) + (countBelow k (λ i. t i && not (u i)) + digit (a && not b))
+        ≡ countBelow k t + digit a
+    go true true e = omega arith
+    go true false e = omega arith
+    go false b e = omega arith

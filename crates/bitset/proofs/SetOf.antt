@@ -1,8 +1,8 @@
 -- The set of the numbers that pass a test: its members, and that a number is the set of its members.
 use mathlib.Core.Path.{_≡_, refl, sym, ap, ap₂, _∙_}
-use mathlib.Core.Bool.{Bool, true, false, cond, _&&_, _||_, or-comm}
+use mathlib.Core.Bool.{Bool, true, false, cond, not, _&&_, _||_, or-comm}
 use mathlib.Core.Logic.{_↔_, ⊎-elim}
-use Prim.Native.Nat.{ℕ, zero, suc, _+_, _*_, _%_, _^_, _≤_, _<_}
+use Prim.Native.Nat.{ℕ, zero, suc, _+_, _-_, _*_, _%_, _^_, _≤_, _<_}
 use native.Mathlib.Nat.{not-suc-le-zero, le-of-suc-le-suc, le-refl, le-of-lt, eq-or-lt-of-le, zero-lt-suc}
 use native.Mathlib.Nat.{mod-one, mod-eq-of-lt, pow-suc, lt-of-lt-of-le, add-comm, one-mul}
 use native.Mathlib.Numerals.{add-one, one-add}
@@ -12,7 +12,7 @@ use borrow.Author.Tests.{ne-eqb, lt-ltb, le-ltb}
 use lib.Dec.{ltb, eqb}
 use lib.Pow.{pow-pos, pow-mono, pow-lt, high, low, mod-pow-add}
 use lib.Bits.{bitAnd, bitOr, and-lt, or-lt, or-shifted-r}
-use Rattle.bitset.specs.Members.{member, setOf, meetOf, insert}
+use Rattle.bitset.specs.Members.{member, setOf, meetOf, differenceOf, insert}
 use Rattle.bitset.proofs.Membership.{digit, digit-test, digit-member, member-above, member-zero, member-mod, member-pow, member-and, member-or}
 
 -- one more test puts its digit above the digits of the others
@@ -99,6 +99,27 @@ meetOf-and {a} {b} ha hb = setOf-and 64 (member a) (member b) ∙ ap₂ bitAnd (
 -- The meet of the sets of two tests is the set of the numbers that pass both.
 pub meetOf-setOf : (k : ℕ) (t u : ℕ → Bool) → k ≤ 64 → meetOf (setOf k t) (setOf k u) ≡ setOf k (λ i. t i && u i)
 meetOf-setOf k t u h = meetOf-and (setOf-word k t h) (setOf-word k u h) ∙ sym (setOf-and k t u)
+
+-- Of the numbers that pass a test, those that pass another and those that fail it are all.
+pub setOf-parts : (k : ℕ) (t u : ℕ → Bool) → setOf k (λ i. t i && u i) + setOf k (λ i. t i && not (u i)) ≡ setOf k t
+unfolding setOf
+setOf-parts zero t u = refl
+setOf-parts (suc k) t u = go (t k) (u k) (setOf-parts k t u)
+  where
+    go : (a b : Bool) → setOf k (λ i. t i && u i) + setOf k (λ i. t i && not (u i)) ≡ setOf k t
+        → (setOf k (λ i. t i && u i) + cond (a && b) (2 ^ k) 0) + (setOf k (λ i. t i && not (u i)) + cond (a && not b) (2 ^ k) 0)
+        ≡ setOf k t + cond a (2 ^ k) 0
+    go true true e = omega arith
+    go true false e = omega arith
+    go false b e = omega arith
+
+-- The members of one word that are not in another are the word less the `&` of both.
+pub difference-sub : {a b : ℕ} → a < 2 ^ 64 → b < 2 ^ 64 → (bitAnd a b ≤ a) × (differenceOf a b ≡ a - bitAnd a b)
+difference-sub {a} {b} ha hb =
+    let parts = setOf-parts 64 (member a) (member b) in
+    let both = meetOf-and ha hb in
+    let all = setOf-member 64 ha in
+    (omega arith, omega arith)
 
 -- A word with i added is its `|` with 2 ^ i,
 pub insert-or : {s i : ℕ} → s < 2 ^ 64 → i < 64 → insert s i ≡ bitOr s (2 ^ i)

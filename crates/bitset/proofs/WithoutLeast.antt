@@ -1,5 +1,5 @@
 -- The set without its least member m: its members from m + 1 on, and the `&` of the word with the word less 1.
-use mathlib.Core.Path.{_≡_, sym, ap, ap₂, _∙_}
+use mathlib.Core.Path.{_≡_, refl, sym, ap, ap₂, _∙_}
 use mathlib.Core.Bool.{_&&_, not}
 use Prim.Native.Nat.{ℕ, _+_, _-_, _*_, _/_, _%_, _^_, _<_}
 use native.Mathlib.Nat.{mod-lt, mod-self}
@@ -11,10 +11,12 @@ use lib.Dec.{leb, eqb}
 use lib.Pow.{pow-pos, pow-lt, split, mod-pow-add}
 use lib.Bits.{bitAnd, and-block, and-self, and-mask}
 use Rattle.bitset.specs.Members.{member, membersFrom}
+use Rattle.bitset.specs.Count.{size}
 use Rattle.bitset.specs.Least.{leastMember, withoutLeast, IsLeast}
 use Rattle.bitset.specs.declared.Least.the-variants.{Member}
 use Rattle.bitset.proofs.Membership.{digit, digit-member, member-mod}
 use Rattle.bitset.proofs.SetOf.{setOf-congr, member-setOf, no-member}
+use Rattle.bitset.proofs.CountBelow.{countBelow-one}
 use Rattle.bitset.proofs.LeastBelow.{leastBelow-Member}
 use Rattle.bitset.proofs.MembersFrom.{membersFrom-cleared}
 
@@ -78,3 +80,12 @@ pub without-least-smaller : (s m : ℕ) → s < 2 ^ 64 → leastMember s ≡ Mem
 without-least-smaller s m h e =
     rw (withoutLeast-from s m e ∙ membersFrom-cleared (m + 1) h)
     (omega (arith, least-split (leastBelow-Member 64 (member s) e), pow-pos m))
+
+-- It has one member less.
+pub size-without-least : (s m : ℕ) → leastMember s ≡ Member m → size s ≡ size (withoutLeast s) + 1
+size-without-least s m e =
+    let least = leastBelow-Member 64 (member s) e in
+    countBelow-one 64 m (member (withoutLeast s)) (member s) (least .below)
+    (member-without-least s m m e (least .below) ∙ rw (eq-eqb m m refl) refl)
+    (least .passes)
+    (λ j h n. member-without-least s m j e h ∙ rw (ne-eqb j m n) refl)

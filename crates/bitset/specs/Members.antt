@@ -1,5 +1,5 @@
 -- A set of numbers as one number: i is a member where binary digit i is set.
-use mathlib.Core.Bool.{Bool, cond, _&&_, _||_}
+use mathlib.Core.Bool.{Bool, cond, not, _&&_, _||_}
 use Prim.Native.Nat.{ℕ, zero, suc, _+_, _/_, _%_, _^_}
 use lib.Dec.{eqb, leb}
 
@@ -15,6 +15,10 @@ setOf (suc k) test = setOf k test + cond (test k) (2 ^ k) 0
 -- the numbers below 64 that are members of both
 abbrev pub meetOf : ℕ → ℕ → ℕ
 meetOf a b = setOf 64 (λ i. member a i && member b i)
+
+-- the numbers below 64 that are members of a and not of b
+abbrev pub differenceOf : ℕ → ℕ → ℕ
+differenceOf a b = setOf 64 (λ i. member a i && not (member b i))
 
 -- the numbers below 64 that are i or members of s
 abbrev pub insert : ℕ → ℕ → ℕ

@@ -2,7 +2,7 @@
 
 ghost use mathlib.Core.Path.{_≡_};
 ghost use lib.Dec.{eqb};
-ghost use Rattle.bitset.specs.Members.{member, meetOf, insert, membersFrom};
+ghost use Rattle.bitset.specs.Members.{member, meetOf, differenceOf, insert, membersFrom};
 ghost use Rattle.bitset.specs.Count.{size};
 ghost use Rattle.bitset.specs.Least.{leastMember, leastAbove, withoutLeast};
 
@@ -57,6 +57,13 @@ pub fn meet(a: u64, b: u64) -> u64
     ensures { λ r. ⌜ r ≡ meetOf a b ⌝ }
 {
     a & b
+}
+
+// The members of `a` that are not in `b`: what both hold is part of `a`, and is taken off.
+pub fn difference(a: u64, b: u64) -> u64
+    ensures { λ r. ⌜ r ≡ differenceOf a b ⌝ }
+{
+    a - (a & b)
 }
 
 // False for an `i` that no set holds, 64 and above.

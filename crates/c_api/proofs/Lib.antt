@@ -1,4 +1,7 @@
 pub mod ReadArms
-pub mod NoVisitLost
 pub mod RefusalNumbers
+pub mod Unmoved
+pub mod SearchWays
 pub mod ResumedCall
+pub mod OutputRoom
+pub mod ByteCalls

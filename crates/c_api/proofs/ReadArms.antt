@@ -1,22 +1,20 @@
--- What each exported function on two graphs returns, arm by arm: no room, two graphs of which one is refused, two graphs that are read.
+-- What each exported function on two graphs returns, arm by arm: two graphs of which one is refused, two graphs that are read.
 use mathlib.Core.Path.{_≡_, ap, _∙_}
 use mathlib.Core.List.{List}
-use Prim.Native.Nat.{ℕ, _≤_, _<_}
-use lib.ListN.{length}
-use borrow.Author.Tests.{le-leb, lt-leb}
+use Prim.Native.Nat.{ℕ}
 use Rattle.answers.specs.Answer.{Answer}
 use Rattle.problem.specs.Problem.{Problem}
 use Rattle.mapping.specs.Answers.{Outcome}
 use Rattle.mapping.specs.Check.{checkOutcome}
 use Rattle.problem_reader.specs.ProblemReading.{ReadOutcome, read, refusal, readProblem}
-use Rattle.search.specs.declared.checkpoint.Checkpoint.{Checkpoint}
-use Rattle.search.specs.Checkpoints.{freshCheckpoint}
+use Rattle.checkpoint.specs.declared.Checkpoint.{Checkpoint}
+use Rattle.checkpoint.specs.Checkpoints.{freshCheckpoint}
 use Rattle.checkpoint_bytes.specs.declared.SaveAnswer.{SaveAnswer}
 use Rattle.checkpoint_bytes.specs.Answers.{saveAnswer}
-use Rattle.checkpoint_bytes.specs.Saving.{maxBytes, savingOf, saving}
+use Rattle.checkpoint_bytes.specs.Saving.{savingOf, saving}
 use Rattle.replies.specs.declared.Reply.{Reply}
 use Rattle.replies.specs.declared.ResumeReply.{ResumeReply}
-use Rattle.replies.specs.Reply.{replyOf, tooShort}
+use Rattle.replies.specs.Reply.{replyOf}
 use Rattle.replies.specs.Checked.{CheckedMapping, checked, checkedBy}
 use Rattle.replies.specs.Resumed.{resumed, resumeFrom}
 use Rattle.replies.specs.ReadOut.{ReadOut, notReadOut, readBytes}
@@ -36,67 +34,41 @@ module _ (old new : List ℕ) where
     check-read P e x o p q = p ∙ ap checkedBy q ∙ ap (λ (r : ReadOutcome). checkOn r l) e
 
   module _ (minimum : ℕ) (buffer : List ℕ) where
-    pub start-short : length buffer < maxBytes → started tooShort buffer ≡ starting old new minimum buffer
+    pub start-refused : (t : Reply) (a : Answer) → t ≡ replyOf a → refusal a ≡ readProblem old new
+        → started t buffer ≡ starting old new minimum buffer
     unfolding starting
-    start-short short = simp (lt-leb _ _ short)
+    start-refused t a p e = ap (λ (x : Reply). started x buffer) p ∙ ap (λ (o : ReadOutcome). startOn o minimum buffer) e
 
-    module _ (room : maxBytes ≤ length buffer) where
-      start-room : startOn (readProblem old new) minimum buffer ≡ starting old new minimum buffer
-      unfolding starting
-      start-room = simp (le-leb _ _ room)
-
-      pub start-refused : (t : Reply) (a : Answer) → t ≡ replyOf a → refusal a ≡ readProblem old new
-          → started t buffer ≡ starting old new minimum buffer
-      start-refused t a p e =
-          ap (λ (x : Reply). started x buffer) p ∙ ap (λ (o : ReadOutcome). startOn o minimum buffer) e ∙ start-room
-
-      pub start-read : (P : Problem) → read P ≡ readProblem old new → (t : Reply) (s : SaveAnswer) (after : List ℕ) (c : Checkpoint)
-          → t ≡ replyOf (saveAnswer s) → savingOf s after ≡ saving P c buffer → c ≡ freshCheckpoint minimum
-          → started t after ≡ starting old new minimum buffer
-      start-read P e t s after c p q f =
-          ap (λ (x : Reply). started x after) p
-          ∙ ap startedBy q
-          ∙ ap (λ (x : Checkpoint). startedBy (saving P x buffer)) f
-          ∙ ap (λ (o : ReadOutcome). startOn o minimum buffer) e
-          ∙ start-room
+    pub start-read : (P : Problem) → read P ≡ readProblem old new → (t : Reply) (s : SaveAnswer) (after : List ℕ) (c : Checkpoint)
+        → t ≡ replyOf (saveAnswer s) → savingOf s after ≡ saving P c buffer → c ≡ freshCheckpoint minimum
+        → started t after ≡ starting old new minimum buffer
+    unfolding starting
+    start-read P e t s after c p q f =
+        ap (λ (x : Reply). started x after) p
+        ∙ ap startedBy q
+        ∙ ap (λ (x : Checkpoint). startedBy (saving P x buffer)) f
+        ∙ ap (λ (o : ReadOutcome). startOn o minimum buffer) e
 
   module _ (bytes : List ℕ) (budget : ℕ) (workspace next : List ℕ) where
-    pub resume-short : length next < maxBytes → resumed tooShort 0 workspace next ≡ resuming old new bytes budget workspace next
+    pub resume-refused : (t : Reply) (a : Answer) → t ≡ replyOf a → refusal a ≡ readProblem old new
+        → resumed t 0 workspace next ≡ resuming old new bytes budget workspace next
     unfolding resuming
-    resume-short short = simp (lt-leb _ _ short)
+    resume-refused t a p e =
+        ap (λ (x : Reply). resumed x 0 workspace next) p ∙ ap (λ (o : ReadOutcome). resumeOn o bytes budget workspace next) e
 
-    module _ (room : maxBytes ≤ length next) where
-      resume-room : resumeOn (readProblem old new) bytes budget workspace next ≡ resuming old new bytes budget workspace next
-      unfolding resuming
-      resume-room = simp (le-leb _ _ room)
-
-      pub resume-refused : (t : Reply) (a : Answer) → t ≡ replyOf a → refusal a ≡ readProblem old new
-          → resumed t 0 workspace next ≡ resuming old new bytes budget workspace next
-      resume-refused t a p e =
-          ap (λ (x : Reply). resumed x 0 workspace next) p
-          ∙ ap (λ (o : ReadOutcome). resumeOn o bytes budget workspace next) e
-          ∙ resume-room
-
-      pub resume-read : (P : Problem) → read P ≡ readProblem old new → (r : ResumeReply) (words after : List ℕ)
-          → resumed (r .reply) (r .ceiling) words after ≡ resumeFrom P bytes budget workspace next
-          → resumed (r .reply) (r .ceiling) words after ≡ resuming old new bytes budget workspace next
-      resume-read P e r words after p = p ∙ ap (λ (o : ReadOutcome). resumeOn o bytes budget workspace next) e ∙ resume-room
+    pub resume-read : (P : Problem) → read P ≡ readProblem old new → (r : ResumeReply) (words after : List ℕ)
+        → resumed (r .reply) (r .ceiling) words after ≡ resumeFrom P bytes budget workspace next
+        → resumed (r .reply) (r .ceiling) words after ≡ resuming old new bytes budget workspace next
+    unfolding resuming
+    resume-read P e r words after p = p ∙ ap (λ (o : ReadOutcome). resumeOn o bytes budget workspace next) e
 
   module _ (bytes mapping : List ℕ) where
-    pub read-out-short : length mapping < 64 → notReadOut mapping tooShort ≡ readingOut old new bytes mapping
+    pub read-out-refused : (t : Reply) (a : Answer) → t ≡ replyOf a → refusal a ≡ readProblem old new
+        → notReadOut mapping t ≡ readingOut old new bytes mapping
     unfolding readingOut
-    read-out-short short = simp (lt-leb _ _ short)
+    read-out-refused t a p e = ap (notReadOut mapping) p ∙ ap (λ (o : ReadOutcome). readOutOn o bytes mapping) e
 
-    module _ (room : 64 ≤ length mapping) where
-      read-out-room : readOutOn (readProblem old new) bytes mapping ≡ readingOut old new bytes mapping
-      unfolding readingOut
-      read-out-room = simp (le-leb _ _ room)
-
-      pub read-out-refused : (t : Reply) (a : Answer) → t ≡ replyOf a → refusal a ≡ readProblem old new
-          → notReadOut mapping t ≡ readingOut old new bytes mapping
-      read-out-refused t a p e =
-          ap (notReadOut mapping) p ∙ ap (λ (o : ReadOutcome). readOutOn o bytes mapping) e ∙ read-out-room
-
-      pub read-out-read : (P : Problem) → read P ≡ readProblem old new → (x : ReadOut) → x ≡ readBytes P bytes mapping
-          → x ≡ readingOut old new bytes mapping
-      read-out-read P e x p = p ∙ ap (λ (o : ReadOutcome). readOutOn o bytes mapping) e ∙ read-out-room
+    pub read-out-read : (P : Problem) → read P ≡ readProblem old new → (x : ReadOut) → x ≡ readBytes P bytes mapping
+        → x ≡ readingOut old new bytes mapping
+    unfolding readingOut
+    read-out-read P e x p = p ∙ ap (λ (o : ReadOutcome). readOutOn o bytes mapping) e

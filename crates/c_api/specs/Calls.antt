@@ -1,18 +1,15 @@
 -- Starting and resuming a search whose checkpoint is bytes (01, "Bookmark and calls").
-use mathlib.Core.Bool.{cond}
 use mathlib.Core.List.{List}
 use Prim.Native.Nat.{ℕ}
-use lib.Dec.{leb}
-use lib.ListN.{length}
 use Rattle.answers.specs.Answer.{Answer}
 use Rattle.answers.specs.Output.{Writing}
 use Rattle.problem.specs.Problem.{Problem}
 use Rattle.problem_reader.specs.ProblemReading.{ReadOutcome, onOutcome, readProblem}
-use Rattle.search.specs.Checkpoints.{freshCheckpoint}
-use Rattle.checkpoint_bytes.specs.Saving.{maxBytes, saving}
+use Rattle.checkpoint.specs.Checkpoints.{freshCheckpoint}
+use Rattle.checkpoint_bytes.specs.Saving.{saving}
 use Rattle.replies.specs.declared.Reply.{Reply}
-use Rattle.replies.specs.Reply.{replyOf, tooShort}
-use Rattle.replies.specs.Resumed.{Resumed, resumed, notResumed, resumeFrom}
+use Rattle.replies.specs.Reply.{replyOf}
+use Rattle.replies.specs.Resumed.{Resumed, notResumed, resumeFrom}
 
 -- the reply, and the lent buffer afterwards
 pub record Started : Type 0 where
@@ -30,15 +27,14 @@ abbrev pub startOn : ReadOutcome → ℕ → List ℕ → Started
 startOn outcome minimum buffer =
     onOutcome (λ (P : Problem). startedBy (saving P (freshCheckpoint minimum) buffer)) (λ (refusal : Answer). started (replyOf refusal) buffer) outcome
 
--- a buffer that a checkpoint is written to has room for the longest one, tested first, so that no visit is lost for want of room
+-- the graphs' refusals, then 13 where the bytes do not fit
 unfoldable pub starting : List ℕ → List ℕ → ℕ → List ℕ → Started
-starting old new minimum buffer =
-    cond (leb maxBytes (length buffer)) (startOn (readProblem old new) minimum buffer) (started tooShort buffer)
+starting old new minimum buffer = startOn (readProblem old new) minimum buffer
 
 abbrev pub resumeOn : ReadOutcome → List ℕ → ℕ → List ℕ → List ℕ → Resumed
 resumeOn outcome bytes budget workspace next =
     onOutcome (λ (P : Problem). resumeFrom P bytes budget workspace next) (notResumed workspace next) outcome
 
+-- the graphs' refusals, those of the checkpoint bytes, those of the search call, and last 13
 unfoldable pub resuming : List ℕ → List ℕ → List ℕ → ℕ → List ℕ → List ℕ → Resumed
-resuming old new bytes budget workspace next =
-    cond (leb maxBytes (length next)) (resumeOn (readProblem old new) bytes budget workspace next) (resumed tooShort 0 workspace next)
+resuming old new bytes budget workspace next = resumeOn (readProblem old new) bytes budget workspace next

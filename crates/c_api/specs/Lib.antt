@@ -2,3 +2,4 @@ pub mod Checks
 pub mod Calls
 pub mod ReadOut
 pub mod ResumedCall
+pub mod ByteCalls

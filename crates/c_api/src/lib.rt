@@ -1,10 +1,10 @@
 // What C, Rust or Python links: exported functions on numbers and byte slices, over graph bytes and checkpoint bytes. include/golfcedar.h declares them.
 
-use checkpoint_bytes::MAX_BYTES;
+use checkpoint::Checkpoint;
 use graph::EDGE_BYTES;
+use graph::Label;
 use graph::MAX_ORDER;
 use problem_reader::ProblemRead;
-use search::Checkpoint;
 ghost use mathlib.Core.Path.{_≡_};
 ghost use Rattle.replies.specs.Reply.{reply};
 ghost use Rattle.replies.specs.Checked.{checked};
@@ -19,7 +19,7 @@ ghost use Rattle.c_api.specs.ReadOut.{readingOut};
 pub extern "C" fn golfcedar_check_graph(graph: &[u8], value: &mut u64) -> u32
     ensures { λ r. ⌜ reply r (now (value .exit)) ≡ checkingGraph (now (graph .entry)) ⌝ }
 {
-    let mut labels = [0u8; MAX_ORDER];
+    let mut labels = [0 as Label; MAX_ORDER];
     let mut edges = [0u8; EDGE_BYTES];
     let reply = replies::of_read(graph_reader::read_graph(graph, &mut labels, &mut edges));
     *value = reply.value;
@@ -38,9 +38,9 @@ pub extern "C" fn golfcedar_check_mapping(
     ensures { λ r. ⌜ checked (reply r (now (value .exit))) (now (earlier .exit))
         ≡ checkingMapping (now («old_graph» .entry)) (now («new_graph» .entry)) (now (mapping .entry)) ⌝ }
 {
-    let mut old_labels = [0u8; MAX_ORDER];
+    let mut old_labels = [0 as Label; MAX_ORDER];
     let mut old_edges = [0u8; EDGE_BYTES];
-    let mut new_labels = [0u8; MAX_ORDER];
+    let mut new_labels = [0 as Label; MAX_ORDER];
     let mut new_edges = [0u8; EDGE_BYTES];
     match problem_reader::read_problem(
         old_graph,
@@ -82,13 +82,9 @@ pub extern "C" fn golfcedar_start(
     ensures { λ r. ⌜ started (reply r (now (value .exit))) (now (checkpoint .exit))
         ≡ starting (now («old_graph» .entry)) (now («new_graph» .entry)) minimum (now (checkpoint .entry)) ⌝ }
 {
-    if checkpoint.len() < MAX_BYTES {
-        *value = 0;
-        return 13;
-    }
-    let mut old_labels = [0u8; MAX_ORDER];
+    let mut old_labels = [0 as Label; MAX_ORDER];
     let mut old_edges = [0u8; EDGE_BYTES];
-    let mut new_labels = [0u8; MAX_ORDER];
+    let mut new_labels = [0 as Label; MAX_ORDER];
     let mut new_edges = [0u8; EDGE_BYTES];
     match problem_reader::read_problem(
         old_graph,
@@ -133,14 +129,9 @@ pub extern "C" fn golfcedar_resume(
     ensures { λ r. ⌜ resumed (reply r (now (value .exit))) (now (ceiling .exit)) (now (workspace .exit)) (now (next .exit))
         ≡ resuming (now («old_graph» .entry)) (now («new_graph» .entry)) (now (checkpoint .entry)) budget (now (workspace .entry)) (now (next .entry)) ⌝ }
 {
-    if next.len() < MAX_BYTES {
-        *value = 0;
-        *ceiling = 0;
-        return 13;
-    }
-    let mut old_labels = [0u8; MAX_ORDER];
+    let mut old_labels = [0 as Label; MAX_ORDER];
     let mut old_edges = [0u8; EDGE_BYTES];
-    let mut new_labels = [0u8; MAX_ORDER];
+    let mut new_labels = [0 as Label; MAX_ORDER];
     let mut new_edges = [0u8; EDGE_BYTES];
     match problem_reader::read_problem(
         old_graph,
@@ -191,13 +182,9 @@ pub extern "C" fn golfcedar_read_out(
     *steps = 0;
     *size = 0;
     *ceiling = 0;
-    if mapping.len() < MAX_ORDER {
-        *value = 0;
-        return 13;
-    }
-    let mut old_labels = [0u8; MAX_ORDER];
+    let mut old_labels = [0 as Label; MAX_ORDER];
     let mut old_edges = [0u8; EDGE_BYTES];
-    let mut new_labels = [0u8; MAX_ORDER];
+    let mut new_labels = [0 as Label; MAX_ORDER];
     let mut new_edges = [0u8; EDGE_BYTES];
     match problem_reader::read_problem(
         old_graph,

@@ -5,8 +5,8 @@ use Prim.Native.Nat.{ℕ}
 use Rattle.problem.specs.Problem.{Problem, SoundProblem}
 use Rattle.search_tree.specs.Search.{searchOf}
 use Rattle.search_tree.specs.Walk.{IsTotal}
-use Rattle.search.specs.declared.checkpoint.Checkpoint.{Checkpoint}
-use Rattle.search.specs.Checkpoints.{freshCheckpoint}
+use Rattle.checkpoint.specs.declared.Checkpoint.{Checkpoint}
+use Rattle.checkpoint.specs.Checkpoints.{freshCheckpoint}
 use Rattle.search.specs.Calls.{called, results, leaves}
 use Rattle.search.specs.ThirdProperty.{ThirdProperty}
 use Rattle.search.proofs.ThirdProperty.{third-property, third-property-total}

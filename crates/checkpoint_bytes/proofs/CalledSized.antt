@@ -14,14 +14,15 @@ use Rattle.search_tree.specs.Search.{Search, searchOf}
 use Rattle.search_tree.specs.Walk.{State, visit}
 use Rattle.search_tree.specs.Shape.{Shape}
 use Rattle.search_tree.proofs.Steps.{visit-steps, visit-finished}
-use Rattle.search.specs.declared.checkpoint.Checkpoint.{Checkpoint}
-use Rattle.search.specs.Checkpoints.{incumbentBytes, checkpointOf, freshCheckpoint, stateOf, InShape}
+use Rattle.checkpoint.specs.declared.Checkpoint.{Checkpoint}
+use Rattle.checkpoint.specs.Checkpoints.{incumbentBytes, checkpointOf, freshCheckpoint, stateOf, InShape}
 use Rattle.search.specs.Call.{Called, visits, wordsNeeded, refuse, advance, countFits, onPassed, searchCall}
-use Rattle.search.specs.Checking.{checkpointAnswer}
+use Rattle.checkpoint.specs.Checking.{checkpointAnswer}
 use Rattle.search.specs.Calls.{Call, called}
-use Rattle.search.proofs.Padding.{padded-length}
-use Rattle.search.proofs.CheckpointPasses.{passes-shape}
-use Rattle.search.proofs.ShapeKept.{visits-shape, state-in-shape, advance-in-shape}
+use Rattle.checkpoint.proofs.Padding.{padded-length}
+use Rattle.checkpoint.proofs.CheckpointPasses.{passes-shape}
+use Rattle.checkpoint.proofs.StateShape.{state-in-shape}
+use Rattle.search.proofs.ShapeKept.{visits-shape, advance-in-shape}
 use Rattle.search.proofs.FinishedCall.{visits-finished}
 use Rattle.checkpoint_bytes.specs.Between.{Sized}
 

@@ -7,7 +7,7 @@ use lib.ListN.{length, getD, set, replicate, length-append}
 use lib.Seq.{set-at, append-snoc}
 use Rattle.bounded.specs.Below.{runBelow}
 use Rattle.bounded.proofs.Below.{runBelow-add-one, length-runBelow, sumBelow-same}
-use Rattle.search.specs.Checkpoints.{padded}
+use Rattle.checkpoint.specs.Checkpoints.{padded}
 use Rattle.checkpoint_bytes.specs.Saving.{entryBytes}
 use Rattle.checkpoint_bytes.specs.Loading.{entries}
 use Rattle.checkpoint_bytes.proofs.Pairs.{length-values}

@@ -6,8 +6,8 @@ use mathlib.Core.Option.{none, some}
 use Prim.Native.Nat.{ℕ}
 use Rattle.little_endian.specs.LittleEndian.{littleEndian, fromLittle}
 use Rattle.bounded.specs.Below.{runBelow}
-use Rattle.search.specs.declared.checkpoint.Checkpoint.{Checkpoint}
-use Rattle.search.specs.Checkpoints.{padded}
+use Rattle.checkpoint.specs.declared.Checkpoint.{Checkpoint}
+use Rattle.checkpoint.specs.Checkpoints.{padded}
 use Rattle.checkpoint_bytes.specs.Form.{next, faultFrom, formFault}
 use Rattle.checkpoint_bytes.specs.Saving.{headerBytes, checkpointBytes}
 use Rattle.checkpoint_bytes.specs.Loading.{said}

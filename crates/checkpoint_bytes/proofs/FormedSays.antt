@@ -10,9 +10,9 @@ use lib.Seq.{take-at}
 use Rattle.little_endian.specs.LittleEndian.{littleEndian, fromLittle}
 use Rattle.little_endian.proofs.LittleEndian.{little-back, from-little}
 use Rattle.problem.specs.Problem.{Problem}
-use Rattle.search.specs.declared.checkpoint.Checkpoint.{Checkpoint}
-use Rattle.search.specs.Checkpoints.{padded, InShape}
-use Rattle.search.proofs.Padding.{padded-back}
+use Rattle.checkpoint.specs.declared.Checkpoint.{Checkpoint}
+use Rattle.checkpoint.specs.Checkpoints.{padded, InShape}
+use Rattle.checkpoint.proofs.Padding.{padded-back}
 use Rattle.checkpoint_bytes.specs.Form.{holdsOf, finishedOf, formFault}
 use Rattle.checkpoint_bytes.specs.Saving.{stateByte, checkpointBytes}
 use Rattle.checkpoint_bytes.specs.Loading.{entries, incumbentEntries, pathEntries, said}

@@ -7,8 +7,8 @@ use Prim.Native.Nat.{ℕ}
 use Rattle.answers.specs.Answer.{Answer, passed, accepted, refused, refusedAt, whenPassed}
 use Rattle.problem.specs.Problem.{Problem, SoundProblem, problemAnswer}
 use Rattle.problem.proofs.ProblemPasses.{passes-problem}
-use Rattle.search.specs.Checkpoints.{freshCheckpoint, InShape, inShape}
-use Rattle.search.proofs.ShapeTest.{shape-test}
+use Rattle.checkpoint.specs.Checkpoints.{freshCheckpoint, InShape, inShape}
+use Rattle.checkpoint.proofs.ShapeTest.{shape-test}
 use Rattle.checkpoint_bytes.specs.Form.{formFault}
 use Rattle.checkpoint_bytes.specs.Saving.{checkpointBytes}
 use Rattle.checkpoint_bytes.specs.Loading.{Loading, said, refuse, onForm, loading}

@@ -6,9 +6,9 @@ use mathlib.Core.Option.{none, some}
 use Prim.Native.Nat.{ℕ}
 use Rattle.answers.specs.Answer.{passed, refused, refusedAt}
 use Rattle.problem.specs.Problem.{Problem, problemAnswer}
-use Rattle.search.specs.declared.checkpoint.Checkpoint.{Checkpoint}
-use Rattle.search.specs.Checkpoints.{inShape}
-use Rattle.search.specs.Checking.{checkpointAnswer}
+use Rattle.checkpoint.specs.declared.Checkpoint.{Checkpoint}
+use Rattle.checkpoint.specs.Checkpoints.{inShape}
+use Rattle.checkpoint.specs.Checking.{checkpointAnswer}
 use Rattle.checkpoint_bytes.specs.Form.{formFault}
 use Rattle.checkpoint_bytes.specs.Loading.{Loading, said, refuse, onShape, loading}
 

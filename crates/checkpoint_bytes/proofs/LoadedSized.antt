@@ -9,8 +9,8 @@ use Rattle.little_endian.specs.LittleEndian.{fromLittle}
 use Rattle.little_endian.proofs.LittleEndian.{fromLittle-max}
 use Rattle.answers.specs.Answer.{passed}
 use Rattle.problem.specs.Problem.{Problem}
-use Rattle.search.specs.declared.checkpoint.Checkpoint.{Checkpoint}
-use Rattle.search.proofs.Padding.{padded-length}
+use Rattle.checkpoint.specs.declared.Checkpoint.{Checkpoint}
+use Rattle.checkpoint.proofs.Padding.{padded-length}
 use Rattle.checkpoint_bytes.specs.Form.{holdsOf}
 use Rattle.checkpoint_bytes.specs.Loading.{said, loading}
 use Rattle.checkpoint_bytes.specs.Between.{Sized}

@@ -10,11 +10,11 @@ use Rattle.answers.proofs.Filled.{filled-bytes}
 use Rattle.answers.proofs.RefusalNumbers.{Plain}
 use Rattle.problem.specs.Problem.{Problem, SoundProblem}
 use Rattle.problem.proofs.ProblemPasses.{problem-passes}
-use Rattle.search.specs.declared.checkpoint.Checkpoint.{Checkpoint}
-use Rattle.search.specs.Checkpoints.{InShape}
-use Rattle.search.specs.Checking.{checkpointAnswer}
-use Rattle.search.proofs.ShapeTest.{shape-test}
-use Rattle.search.proofs.CheckpointPasses.{passes-shape, checkpoint-plain}
+use Rattle.checkpoint.specs.declared.Checkpoint.{Checkpoint}
+use Rattle.checkpoint.specs.Checkpoints.{InShape}
+use Rattle.checkpoint.specs.Checking.{checkpointAnswer}
+use Rattle.checkpoint.proofs.ShapeTest.{shape-test}
+use Rattle.checkpoint.proofs.CheckpointPasses.{passes-shape, checkpoint-plain}
 use Rattle.checkpoint_bytes.specs.Saving.{checkpointBytes, saving}
 use Rattle.checkpoint_bytes.specs.Loading.{Loading, loading}
 use Rattle.checkpoint_bytes.specs.Between.{Sized, loadedBack, reloaded}

@@ -11,7 +11,7 @@ use Rattle.little_endian.specs.LittleEndian.{littleEndian}
 use Rattle.answers.specs.Answer.{accepted, refused}
 use Rattle.answers.specs.Output.{Writing, fill}
 use Rattle.answers.proofs.Stores.{sets-append, sets-front}
-use Rattle.search.specs.declared.checkpoint.Checkpoint.{Checkpoint}
+use Rattle.checkpoint.specs.declared.Checkpoint.{Checkpoint}
 use Rattle.checkpoint_bytes.specs.Saving.{headerBytes, entryBytes, checkpointBytes}
 use Rattle.checkpoint_bytes.proofs.EntryRuns.{length-entryBytes}
 use Rattle.checkpoint_bytes.proofs.SavedBytes.{saved-length}

@@ -9,8 +9,8 @@ use lib.ListN.{length, getD}
 use Rattle.little_endian.specs.LittleEndian.{littleEndian}
 use Rattle.little_endian.proofs.LittleEndian.{length-little}
 use Rattle.problem.specs.Problem.{Problem, SoundProblem}
-use Rattle.search.specs.declared.checkpoint.Checkpoint.{Checkpoint}
-use Rattle.search.specs.Checkpoints.{InShape}
+use Rattle.checkpoint.specs.declared.Checkpoint.{Checkpoint}
+use Rattle.checkpoint.specs.Checkpoints.{InShape}
 use Rattle.checkpoint_bytes.specs.Form.{holdsOf, finishedOf, formFault}
 use Rattle.checkpoint_bytes.specs.Saving.{stateByte, headerBytes, checkpointBytes, maxBytes}
 use Rattle.checkpoint_bytes.specs.Formed.{formBytes, Formed}

@@ -6,7 +6,7 @@ use Prim.Native.Nat.{ℕ, _^_, _<_}
 use lib.ListN.{length, take}
 use Rattle.answers.specs.Answer.{Answer, onAnswer}
 use Rattle.problem.specs.Problem.{Problem}
-use Rattle.search.specs.declared.checkpoint.Checkpoint.{Checkpoint}
+use Rattle.checkpoint.specs.declared.Checkpoint.{Checkpoint}
 use Rattle.search.specs.Call.{Called}
 use Rattle.search.specs.Calls.{Call, called, results, leaves}
 use Rattle.checkpoint_bytes.specs.Saving.{saving}

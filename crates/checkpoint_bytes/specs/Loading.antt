@@ -8,8 +8,8 @@ use Rattle.little_endian.specs.LittleEndian.{fromLittle}
 use Rattle.bounded.specs.Below.{runBelow}
 use Rattle.answers.specs.Answer.{Answer, passed, refused, refusedAt, whenPassed}
 use Rattle.problem.specs.Problem.{Problem, problemAnswer}
-use Rattle.search.specs.declared.checkpoint.Checkpoint.{Checkpoint}
-use Rattle.search.specs.Checkpoints.{padded, freshCheckpoint, inShape}
+use Rattle.checkpoint.specs.declared.Checkpoint.{Checkpoint}
+use Rattle.checkpoint.specs.Checkpoints.{padded, freshCheckpoint, inShape}
 use Rattle.checkpoint_bytes.specs.declared.Loaded.{Loaded}
 use Rattle.checkpoint_bytes.specs.Answers.{loadAnswer}
 use Rattle.checkpoint_bytes.specs.Form.{holdsOf, finishedOf, formFault}

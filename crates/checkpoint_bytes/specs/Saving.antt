@@ -7,8 +7,8 @@ use Rattle.little_endian.specs.LittleEndian.{littleEndian}
 use Rattle.bounded.specs.Below.{runBelow}
 use Rattle.answers.specs.Output.{Writing, writeIf}
 use Rattle.problem.specs.Problem.{Problem}
-use Rattle.search.specs.declared.checkpoint.Checkpoint.{Checkpoint}
-use Rattle.search.specs.Checking.{checkpointAnswer}
+use Rattle.checkpoint.specs.declared.Checkpoint.{Checkpoint}
+use Rattle.checkpoint.specs.Checking.{checkpointAnswer}
 use Rattle.checkpoint_bytes.specs.declared.SaveAnswer.{SaveAnswer}
 use Rattle.checkpoint_bytes.specs.Answers.{saveAnswer}
 

@@ -4,14 +4,14 @@ mod form;
 mod loader;
 mod saver;
 
+use checkpoint::Checkpoint;
+use checkpoint::ShapeAnswer;
 use form::Form;
 use problem::Edges;
 use problem::Labels;
 use problem::Orders;
 use problem::ProblemAnswer;
 use problem::ProblemFlaw;
-use search::Checkpoint;
-use search::ShapeAnswer;
 ghost use mathlib.Core.Path.{_≡_};
 ghost use mathlib.Core.Bool.{cond};
 ghost use Prim.Native.Nat.{_≤_};
@@ -20,9 +20,6 @@ ghost use Rattle.problem.specs.Lent.{lent};
 ghost use Rattle.checkpoint_bytes.specs.Saving.{stateByte, savingOf, saving};
 ghost use Rattle.checkpoint_bytes.specs.Loading.{loadingOf, loading, refuse as refused};
 ghost use Rattle.checkpoint_bytes.specs.Answers.{saveAnswer, loadAnswer};
-
-// The most bytes that a checkpoint is saved in.
-pub const MAX_BYTES: usize = 270;
 
 // The answer of `save_checkpoint`: how many bytes were written, or a refusal.
 pub enum SaveAnswer {
@@ -106,7 +103,7 @@ pub fn save_checkpoint<'a>(
 ) -> SaveAnswer
     ensures { λ r. ⌜ savingOf r (now (out .exit)) ≡ saving (lent orders (labels .entry) (edges .entry)) checkpoint (now (out .entry)) ⌝ }
 {
-    match search::check_checkpoint(orders, labels, edges, checkpoint) {
+    match checkpoint::check_checkpoint(orders, labels, edges, checkpoint) {
         ShapeAnswer::Flawed(flaw) => SaveAnswer::Flawed(flaw),
         ShapeAnswer::OutOfShape => SaveAnswer::OutOfShape,
         ShapeAnswer::InShape => saver::save_in_shape(orders[0], checkpoint, out),
@@ -145,7 +142,7 @@ pub fn load_checkpoint<'a>(
         Form::Whole => {}
     }
     let checkpoint = loader::read_formed(orders[0], bytes);
-    match search::check_checkpoint(orders, labels, edges, checkpoint) {
+    match checkpoint::check_checkpoint(orders, labels, edges, checkpoint) {
         ShapeAnswer::InShape => Loaded {
             answer: LoadAnswer::InShape,
             checkpoint,

@@ -1,13 +1,13 @@
 // The checkpoint that bytes in the form say.
 
 use super::form::HEADER;
+use checkpoint::Checkpoint;
 use graph::MAX_ORDER;
-use search::Checkpoint;
 ghost use mathlib.Core.Path.{_≡_};
 ghost use mathlib.Core.Option.{none};
 ghost use Prim.Native.Nat.{_+_, _*_, _≤_};
 ghost use lib.ListN.{length};
-ghost use Rattle.search.specs.Checkpoints.{padded};
+ghost use Rattle.checkpoint.specs.Checkpoints.{padded};
 ghost use Rattle.checkpoint_bytes.specs.Form.{formFault};
 ghost use Rattle.checkpoint_bytes.specs.Loading.{entries, said};
 

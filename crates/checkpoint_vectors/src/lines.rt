@@ -1,9 +1,9 @@
 // The parts of an output line.
 
+use checkpoint::Checkpoint;
 use checkpoint_bytes::LoadAnswer;
 use checkpoint_bytes::SaveAnswer;
 use libc::STDOUT_FILENO;
-use search::Checkpoint;
 
 pub fn word(text: &[u8]) {
     io::write_all(STDOUT_FILENO, text);

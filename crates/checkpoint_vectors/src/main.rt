@@ -3,12 +3,12 @@
 
 mod lines;
 
+use checkpoint::Checkpoint;
 use checkpoint_bytes::LoadAnswer;
 use graph_reader::ReadAnswer;
 use problem::Edges;
 use problem::Labels;
 use problem::Orders;
-use search::Checkpoint;
 ghost use mathlib.Core.Path.{_≡_};
 ghost use Prim.Native.Nat.{_≤_};
 ghost use lib.ListN.{length};

@@ -6,7 +6,7 @@ mod table_tests;
 ghost use mathlib.Core.Path.{_≡_};
 ghost use Rattle.graph.specs.Graph.{graph};
 ghost use Rattle.graph.specs.Soundness.{tablesFit, soundness};
-ghost use Rattle.graph.specs.Answers.{flawNumber, soundnessAnswer};
+ghost use Rattle.graph.specs.Answers.{soundnessAnswer};
 
 // A vertex label: one alias says its width.
 pub type Label = u8;
@@ -27,17 +27,6 @@ pub enum Flaw {
 pub enum Soundness {
     Sound,
     Flawed(Flaw),
-}
-
-// The document's number of a flaw.
-pub fn flaw_number(flaw: Flaw) -> u8
-    ensures { λ r. ⌜ r ≡ flawNumber flaw ⌝ }
-{
-    match flaw {
-        Flaw::Tables => 10,
-        Flaw::Labels => 11,
-        Flaw::Edges => 12,
-    }
 }
 
 // Whether the tables have 64 and 4,096 bytes, and the order is at most 64.

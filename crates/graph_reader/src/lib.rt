@@ -34,7 +34,7 @@ pub enum ReadAnswer {
 }
 
 // The document's number of a fault.
-pub fn fault_number(fault: Fault) -> u8
+fn fault_number(fault: Fault) -> u8
     ensures { λ r. ⌜ r ≡ faultNumber fault ⌝ }
 {
     match fault {

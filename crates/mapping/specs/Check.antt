@@ -7,10 +7,10 @@ use Prim.Native.Nat.{ℕ, _<_}
 use lib.Dec.{ltb, eqb}
 use lib.ListN.{length, getD}
 use Rattle.bounded.specs.First.{firstBelow}
-use Rattle.answers.specs.Answer.{Answer, onAnswer}
-use Rattle.problem.specs.Problem.{Problem, compareVertices, compareEdges, bothFit, problemAnswer}
+use Rattle.answers.specs.Answer.{Answer, onAnswer, whenPassed}
+use Rattle.problem.specs.Problem.{Problem, compareVertices, compareEdges, problemAnswer}
 use Rattle.mapping.specs.Common.{unmapped, size}
-use Rattle.mapping.specs.Answers.{Outcome, accepted, refused, refusedRow, refusedRows, mappingOutcome}
+use Rattle.mapping.specs.Answers.{Outcome, accepted, refused, refusedRow, refusedRows, Outcomes, flawed, checked, mappingOutcome}
 use Rattle.mapping.specs.declared.rows.Finding.{Finding}
 use Rattle.mapping.specs.declared.rows.Finding.the-variants.{Clear, Fault}
 
@@ -45,10 +45,6 @@ unfoldable pub listOutcome : Problem → List ℕ → Outcome
 listOutcome P l =
     cond (eqb (length l) (P .old .order)) (onFault (firstBelow (length l) (rowFault P l)) (accepted (size l))) (refused 18)
 
--- the list alone, against tables that fit: 10 comes first, and 11 and 12 are not asked
-unfoldable pub rowsOutcome : Problem → List ℕ → Outcome
-rowsOutcome P l = cond (bothFit P) (listOutcome P l) (refused 10)
-
 -- what follows on two sound graphs, or their refusal; `refusedAt` is no answer about two graphs
 abbrev pub onProblem : Answer → Outcome → Outcome
 onProblem answer o = onAnswer o accepted refused refusedRow answer
@@ -56,3 +52,7 @@ onProblem answer o = onAnswer o accepted refused refusedRow answer
 -- all of it: 10, 11 and 12 come first
 unfoldable pub checkOutcome : Problem → List ℕ → Outcome
 checkOutcome P l = onProblem (problemAnswer P) (listOutcome P l)
+
+-- the same of two lists: 10, 11 and 12 come first, once for both
+unfoldable pub bothOutcomes : Problem → List ℕ → List ℕ → Outcomes
+bothOutcomes P l m = whenPassed (problemAnswer P) (checked (listOutcome P l) (listOutcome P m)) flawed

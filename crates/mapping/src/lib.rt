@@ -8,12 +8,11 @@ use problem::Labels;
 use problem::Orders;
 use problem::ProblemAnswer;
 use problem::ProblemFlaw;
-use rows::Finding;
 ghost use mathlib.Core.Path.{_≡_};
 ghost use Rattle.problem.specs.Lent.{lent};
 ghost use Rattle.mapping.specs.Common.{size};
-ghost use Rattle.mapping.specs.Answers.{mappingOutcome, outcomeNumber};
-ghost use Rattle.mapping.specs.Check.{rowsOutcome, checkOutcome};
+ghost use Rattle.mapping.specs.Answers.{mappingOutcome, mappingsOutcome, outcomeNumber};
+ghost use Rattle.mapping.specs.Check.{checkOutcome, bothOutcomes};
 
 // The entry of a row that is left out.
 pub const UNMAPPED: u8 = 255;
@@ -23,7 +22,7 @@ pub struct OldVertex(pub usize);
 
 pub struct NewVertex(pub usize);
 
-// The answer of `check_rows` and `check_mapping`: the mapping's size, or the refusal with its row and, where two rows clash, the earlier row.
+// The answer of `check_mapping`: the mapping's size, or the refusal with its row and, where two rows clash, the earlier row.
 pub enum MappingAnswer {
     Common(usize),
     Flawed(ProblemFlaw),
@@ -32,6 +31,12 @@ pub enum MappingAnswer {
     SameImage(OldVertex, OldVertex),
     LabelsDiffer(OldVertex),
     EdgesDiffer(OldVertex, OldVertex),
+}
+
+// The answer of `check_mappings`: the graphs' refusal, or what the check says of each list.
+pub enum MappingsAnswer {
+    Flawed(ProblemFlaw),
+    Checked(MappingAnswer, MappingAnswer),
 }
 
 // The document's number of a refusal, and 0 where the mapping is a common subgraph.
@@ -56,27 +61,6 @@ pub fn mapping_size(mapping: &[u8]) -> usize
     rows::size(mapping)
 }
 
-// The check of the mapping alone: a caller that has tested the graphs' soundness already need not test it again.
-pub fn check_rows<'a>(
-    orders: Orders,
-    labels: Labels<'a>,
-    edges: Edges<'a>,
-    mapping: &[u8],
-) -> MappingAnswer
-    ensures { λ r. ⌜ mappingOutcome r ≡ rowsOutcome (lent orders (labels .entry) (edges .entry)) (now (mapping .entry)) ⌝ }
-{
-    if !problem::both_fit(orders, labels, edges) {
-        return MappingAnswer::Flawed(ProblemFlaw::Tables);
-    }
-    if mapping.len() != orders[0] {
-        return MappingAnswer::Length;
-    }
-    match rows::first_fault(orders, labels, edges, mapping) {
-        Finding::Fault(answer) => answer,
-        Finding::Clear => MappingAnswer::Common(rows::size(mapping)),
-    }
-}
-
 // Whether the mapping is a common subgraph of the two graphs.
 pub fn check_mapping<'a>(
     orders: Orders,
@@ -88,6 +72,26 @@ pub fn check_mapping<'a>(
 {
     match problem::check_problem(orders, labels, edges) {
         ProblemAnswer::Flawed(flaw) => MappingAnswer::Flawed(flaw),
-        ProblemAnswer::Sound => check_rows(orders, labels, edges, mapping),
+        ProblemAnswer::Sound => rows::check_list(orders, labels, edges, mapping),
+    }
+}
+
+// Whether each of two mappings is a common subgraph: the graphs are tested once for both.
+pub fn check_mappings<'a>(
+    orders: Orders,
+    labels: Labels<'a>,
+    edges: Edges<'a>,
+    first: &[u8],
+    second: &[u8],
+) -> MappingsAnswer
+    ensures { λ r. ⌜ mappingsOutcome r
+        ≡ bothOutcomes (lent orders (labels .entry) (edges .entry)) (now (first .entry)) (now (second .entry)) ⌝ }
+{
+    match problem::check_problem(orders, labels, edges) {
+        ProblemAnswer::Flawed(flaw) => MappingsAnswer::Flawed(flaw),
+        ProblemAnswer::Sound => MappingsAnswer::Checked(
+            rows::check_list(orders, labels, edges, first),
+            rows::check_list(orders, labels, edges, second),
+        ),
     }
 }

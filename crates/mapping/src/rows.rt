@@ -13,10 +13,11 @@ ghost use mathlib.Core.List.{[]};
 ghost use Prim.Native.Nat.{_≤_, _<_};
 ghost use lib.ListN.{length, getD};
 ghost use Rattle.bounded.specs.First.{firstBelow};
-ghost use Rattle.problem.specs.Problem.{compareVertices, compareEdges};
+ghost use Rattle.problem.specs.Problem.{SoundProblem, compareVertices, compareEdges};
 ghost use Rattle.problem.specs.Lent.{lent, BothLong};
 ghost use Rattle.mapping.specs.Common.{size as sizeOf};
-ghost use Rattle.mapping.specs.Check.{finding, EntriesBelow, clash as clashAt, rowFault};
+ghost use Rattle.mapping.specs.Answers.{mappingOutcome};
+ghost use Rattle.mapping.specs.Check.{finding, EntriesBelow, clash as clashAt, rowFault, listOutcome};
 
 // What the check of one row, or of several, finds.
 pub enum Finding {
@@ -166,4 +167,23 @@ pub fn size(mapping: &[u8]) -> usize
         v += 1;
     }
     count
+}
+
+// A list against two sound graphs: its length, then its rows.
+pub fn check_list<'a>(
+    orders: Orders,
+    labels: Labels<'a>,
+    edges: Edges<'a>,
+    mapping: &[u8],
+) -> MappingAnswer
+    requires { ⌜ SoundProblem (lent orders labels edges) ⌝ }
+    ensures { λ r. ⌜ mappingOutcome r ≡ listOutcome (lent orders (labels .entry) (edges .entry)) (now (mapping .entry)) ⌝ }
+{
+    if mapping.len() != orders[0] {
+        return MappingAnswer::Length;
+    }
+    match first_fault(orders, labels, edges, mapping) {
+        Finding::Fault(answer) => answer,
+        Finding::Clear => MappingAnswer::Common(size(mapping)),
+    }
 }

@@ -1,3 +1,2 @@
-pub mod BothFit
 pub mod Consistent
 pub mod ProblemPasses

@@ -53,7 +53,7 @@ fn flawed(flaw: Flaw) -> ProblemFlaw
 }
 
 // Whether the tables of both graphs have their lengths, and both orders are at most 64.
-pub fn both_fit<'a>(orders: Orders, labels: Labels<'a>, edges: Edges<'a>) -> bool
+fn both_fit<'a>(orders: Orders, labels: Labels<'a>, edges: Edges<'a>) -> bool
     ensures { λ r. ⌜ r ≡ bothFit (lent orders (labels .entry) (edges .entry)) ⌝ }
 {
     if !graph::tables_fit(orders[0], labels[0], edges[0]) {

@@ -2,7 +2,7 @@
 
 use libc::STDIN_FILENO;
 use libc::STDOUT_FILENO;
-use report::ReportAnswer;
+use refit_text::MAX_TEXT;
 ghost use Rattle.io.specs.Counts.{Counts};
 
 // Reads until `buf` is full or the input ends. Returns how many bytes stand at its front: none where a read fails.
@@ -45,14 +45,12 @@ fn main() {
     // a tenth byte tells more than nine from nine
     let mut input = [0u8; 10];
     let input_count = read_all(STDIN_FILENO, &mut input);
-    let mut out = [0u8; 8192];
-    let answer = refit_text::refit(
+    let mut out = [0u8; MAX_TEXT];
+    let count = refit_text::refit(
         &old[..old_count],
         &new[..new_count],
         &input[..input_count],
         &mut out,
     );
-    if let ReportAnswer::Written(count) = answer {
-        io::write_all(STDOUT_FILENO, &out[..count]);
-    }
+    io::write_all(STDOUT_FILENO, &out[..count]);
 }

@@ -23,13 +23,13 @@ use Rattle.search_tree.specs.Search.{searchOf}
 use Rattle.search_tree.specs.Node.{candidate, candidates, upperBound, choices, children, choicesAfter, laterSiblings, openNodes}
 use Rattle.search_tree.specs.Walk.{visitPath, visit, after}
 use Rattle.search_tree.specs.Ceiling.{topBound, ceiling}
-use Rattle.search.specs.Checkpoints.{checkpointOf}
+use Rattle.checkpoint.specs.Checkpoints.{checkpointOf}
 use Rattle.search.specs.Call.{Called, wordsNeeded}
 use Rattle.search.proofs.Examples.{bytes, bytes-small}
 use Rattle.search.proofs.WalkCall.{fresh-call}
-use Rattle.report.specs.Decimal.{digits}
-use Rattle.report.specs.Lines.{keepLines, removeLines, isFree, fitLines}
-use Rattle.report.specs.Report.{vertexLines, acceptedText, reportText}
+use Rattle.text.specs.Decimal.{digits}
+use Rattle.refit_text.specs.Lines.{keepLines, removeLines, isFree, fitLines}
+use Rattle.refit_text.specs.Report.{vertexLines, acceptedText, reportText}
 use Rattle.refit_text.specs.Program.{minimumOf, budgetOf, searchText, refitText}
 
 -- the bytes of a text in ASCII

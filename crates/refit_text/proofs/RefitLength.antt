@@ -1,5 +1,5 @@
 -- All that refit prints fits into the 8,192 bytes of the program's buffer: the lines of an accepted call, and the line of every refusal.
-use mathlib.Core.Path.{_≡_, refl}
+use mathlib.Core.Path.{_≡_, refl, sym, ap₂, _∙_}
 use mathlib.Core.Logic.{inl, inr, ⊎-elim}
 use mathlib.Core.Bool.{cond, _&&_, false≢true}
 use mathlib.Core.List.{List, []}
@@ -14,9 +14,11 @@ use lib.ListN.{length, getD, take, replicate, length-take, List·getD-eq-default
 use lib.Seq.{getD-take, take-at}
 use Rattle.bounded.proofs.Below.{sumBelow-le, sumBelow-same}
 use Rattle.answers.specs.Answer.{Answer, passed, accepted, refused, refusedAt, refusalNumber}
-use Rattle.answers.specs.Output.{fill}
+use Rattle.answers.specs.Output.{overwrite, fill}
 use Rattle.answers.proofs.Choice.{either}
 use Rattle.answers.proofs.RefusalNumbers.{RefusalNumber, Plain}
+use Rattle.text.specs.Put.{Put}
+use Rattle.text.proofs.PutTexts.{put-front}
 use Rattle.problem.specs.Problem.{Problem, SoundProblem}
 use Rattle.mapping.proofs.Size.{size-nil}
 use Rattle.problem_reader.specs.ProblemReading.{ReadOutcome, read, refusal, onOutcome, readProblem}
@@ -33,16 +35,16 @@ use Rattle.search_tree.proofs.Shape.{after-shape}
 use Rattle.search_tree.proofs.Solutions.{ceiling-falls}
 use Rattle.search_tree.proofs.Steps.{steps-total}
 use Rattle.search_tree.proofs.WalkTheorems.{rules-regular, walk-ends}
-use Rattle.search.specs.Checkpoints.{hasIncumbent, incumbentBytes, checkpointOf, freshCheckpoint}
-use Rattle.search.specs.Checking.{checkpointAnswer}
+use Rattle.checkpoint.specs.Checkpoints.{hasIncumbent, incumbentBytes, checkpointOf, freshCheckpoint}
+use Rattle.checkpoint.specs.Checking.{checkpointAnswer}
 use Rattle.search.specs.Call.{Called, wordsNeeded, searchCall}
-use Rattle.search.proofs.CheckpointPasses.{passes-shape, checkpoint-plain}
-use Rattle.search.proofs.Padding.{padded-rest}
+use Rattle.checkpoint.proofs.CheckpointPasses.{passes-shape, checkpoint-plain}
+use Rattle.checkpoint.proofs.Padding.{padded-rest}
 use Rattle.search.proofs.WalkCall.{Course, few, full, done, walk-course}
-use Rattle.report.specs.Lines.{refusedWord}
-use Rattle.report.specs.Report.{acceptedText, refusedText, reportText}
-use Rattle.refit_text.specs.Program.{minimumOf, budgetOf, searchText, refitText}
-use Rattle.report.proofs.TextLengths.{length-numberLine, length-accepted}
+use Rattle.refit_text.specs.Lines.{refusedWord}
+use Rattle.refit_text.specs.Report.{acceptedText, refusedText, reportText}
+use Rattle.refit_text.specs.Program.{minimumOf, budgetOf, searchText, refitText, written}
+use Rattle.refit_text.proofs.TextLengths.{length-numberLine, length-accepted}
 
 -- the line of a refusal is short
 refused-short : (number : ℕ) → RefusalNumber number → length (refusedText number) ≤ 8192
@@ -146,5 +148,12 @@ refit-max old new input bytes =
 
 -- So a buffer of as many bytes, as the program's, always has room for it.
 pub refit-written : (old new input out : List ℕ) → ((i : ℕ) → getD input i 0 ≤ 255) → 8192 ≤ length out
-    → fill (refitText old new input) out .answer ≡ accepted (length (refitText old new input))
+    → fill (refitText old new input) out ≡ written (length (refitText old new input)) (overwrite (refitText old new input) out)
 refit-written old new input out bytes room = simp (le-leb _ (length out) (le-trans (refit-max old new input bytes) room))
+
+-- What is put at its front is therefore written whole.
+pub refit-put : (old new input : List ℕ) → ((i : ℕ) → getD input i 0 ≤ 255) → {before after : List ℕ} {count : ℕ}
+    → Put (refitText old new input) before 0 count after → 8192 ≤ length before → written count after ≡ fill (refitText old new input) before
+refit-put old new input bytes {before} put room =
+    let front = put-front put (le-trans (refit-max old new input bytes) room) in
+    ap₂ written (front .0) (front .1) ∙ sym (refit-written old new input before bytes room)

@@ -1,53 +1,46 @@
 // The steps of the refit program between reading and writing.
 
+use super::report;
 use graph::EDGE_BYTES;
 use graph::MAX_ORDER;
 use problem::Edges;
 use problem::Labels;
 use problem::Orders;
 use problem_reader::ProblemRead;
-use report::ReportAnswer;
+use search::Searched;
 use search::WORDS;
 ghost use mathlib.Core.Path.{_≡_};
-ghost use Prim.Native.Nat.{_≤_};
-ghost use lib.ListN.{length, getD};
-ghost use Rattle.answers.specs.Output.{fill};
+ghost use lib.ListN.{getD};
 ghost use Rattle.problem.specs.Lent.{lent};
-ghost use Rattle.report.specs.Report.{writtenOf};
-ghost use Rattle.refit_text.specs.Program.{minimumOf, budgetOf, searchText, graphsText};
+ghost use Rattle.search.specs.Answers.{searchAnswer};
+ghost use Rattle.text.specs.Put.{Put};
+ghost use Rattle.refit_text.specs.Report.{reportText};
+ghost use Rattle.refit_text.specs.Program.{searchText, graphsText};
 
-// A search from a fresh checkpoint, and what is printed of it.
-pub fn search_and_report<'a>(
+// A search from a fresh checkpoint.
+fn search_first<'a>(
     orders: Orders,
     labels: Labels<'a>,
     edges: Edges<'a>,
-    input: &[u8],
-    out: &mut [u8],
-) -> ReportAnswer
-    requires { ⌜ (getD orders 0 0 ≤ 64) × (getD orders 1 0 ≤ 64) × (length (now input) ≡ 9) ⌝ }
-    ensures { λ r. ⌜ writtenOf r (now (out .exit))
-        ≡ fill (searchText (lent orders (labels .entry) (edges .entry)) (minimumOf (now (input .entry))) (budgetOf (now (input .entry))))
-        (now (out .entry)) ⌝ }
+    minimum: u8,
+    budget: u64,
+) -> Searched
+    ensures { λ r. ⌜ reportText (getD orders 0 0) (getD orders 1 0) (searchAnswer (r .answer)) (r .checkpoint)
+        ≡ searchText (lent orders (labels .entry) (edges .entry)) minimum budget ⌝ }
 {
     let mut workspace = [0u64; WORDS];
-    let searched = resume::start(
-        orders,
-        labels,
-        edges,
-        input[0],
-        little_endian::load(&input[1..]),
-        &mut workspace,
-    );
-    let answer = searched.answer;
-    let checkpoint = searched.checkpoint;
-    report::write_report(orders[0], orders[1], answer, checkpoint, out)
+    resume::start(orders, labels, edges, minimum, budget, &mut workspace)
 }
 
 // Both graphs are read, and the old one's refusal comes first.
-pub fn run(old_bytes: &[u8], new_bytes: &[u8], input: &[u8], out: &mut [u8]) -> ReportAnswer
-    requires { ⌜ length (now input) ≡ 9 ⌝ }
-    ensures { λ r. ⌜ writtenOf r (now (out .exit))
-        ≡ fill (graphsText (now («old_bytes» .entry)) (now («new_bytes» .entry)) (now (input .entry))) (now (out .entry)) ⌝ }
+pub fn put_graphs(
+    old_bytes: &[u8],
+    new_bytes: &[u8],
+    minimum: u8,
+    budget: u64,
+    out: &mut [u8],
+) -> usize
+    ensures { λ r. ⌜ Put (graphsText (now («old_bytes» .entry)) (now («new_bytes» .entry)) minimum budget) (now (out .entry)) 0 r (now (out .exit)) ⌝ }
 {
     let mut old_labels = [0u8; MAX_ORDER];
     let mut old_edges = [0u8; EDGE_BYTES];
@@ -62,16 +55,19 @@ pub fn run(old_bytes: &[u8], new_bytes: &[u8], input: &[u8], out: &mut [u8]) -> 
         &mut new_edges,
     );
     match read {
-        ProblemRead::Refused(_) => report::write_refusal(
+        ProblemRead::Refused(_) => report::put_refusal(
             problem_reader::problem_read_number(read),
             out,
         ),
-        ProblemRead::Orders(old_order, new_order) => search_and_report(
-            [old_order, new_order],
-            [&old_labels, &new_labels],
-            [&old_edges, &new_edges],
-            input,
-            out,
-        ),
+        ProblemRead::Orders(old_order, new_order) => {
+            let searched = search_first(
+                [old_order, new_order],
+                [&old_labels, &new_labels],
+                [&old_edges, &new_edges],
+                minimum,
+                budget,
+            );
+            report::put_report(old_order, new_order, searched, out)
+        }
     }
 }

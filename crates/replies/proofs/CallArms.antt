@@ -1,17 +1,20 @@
 -- What a search call and a reading out from checkpoint bytes return, arm by arm of the answers that the code matches on.
-use mathlib.Core.Path.{_≡_, refl, sym, ap, _∙_}
+use mathlib.Core.Path.{_≡_, refl, sym, ap, subst, _∙_}
 use mathlib.Core.Bool.{cond}
 use mathlib.Core.List.{List, [], _∷_}
 use Prim.Native.Nat.{ℕ, _≤_, _<_}
+use native.Mathlib.Omega.{arith}
 use denote.Enum.Declared.{tagOf}
 use types.Run.{OneOf, miss}
 use lib.ListN.{length, take, replicate}
+use lib.Seq.{length-take-le}
 use borrow.Author.Tests.{le-leb, lt-leb}
-use Rattle.answers.specs.Answer.{valueOf}
+use Rattle.answers.specs.Answer.{Answer, accepted, valueOf}
 use Rattle.answers.specs.Output.{Writing, overwrite}
+use Rattle.answers.proofs.RefusalNumbers.{RefusalNumber}
 use Rattle.problem.specs.Problem.{Problem}
 use Rattle.mapping.specs.Common.{size}
-use Rattle.search.specs.declared.checkpoint.Checkpoint.{Checkpoint}
+use Rattle.checkpoint.specs.declared.Checkpoint.{Checkpoint}
 use Rattle.search.specs.declared.Searched.{Searched}
 use Rattle.search.specs.declared.SearchAnswer.{SearchAnswer}
 use Rattle.search.specs.Call.{Called, wordsNeeded, searchCall}
@@ -24,53 +27,102 @@ use Rattle.checkpoint_bytes.specs.Answers.{saveAnswer, loadAnswer}
 use Rattle.checkpoint_bytes.specs.Saving.{stateByte, savingOf, saving}
 use Rattle.checkpoint_bytes.specs.Loading.{Loading, loadingOf, loading}
 use Rattle.checkpoint_bytes.proofs.LoadAnswer as load-tags
+use Rattle.checkpoint_bytes.proofs.SaveAnswer as save-tags
+use Rattle.checkpoint_bytes.proofs.SavedBytes.{incumbent-few}
 use Rattle.checkpoint_bytes.proofs.LoadAccepts.{load-in-shape}
 use Rattle.replies.specs.declared.Reply.{Reply}
 use Rattle.replies.specs.declared.ResumeReply.{ResumeReply}
 use Rattle.replies.specs.Reply.{reply, replyOf, tooShort}
-use Rattle.replies.specs.Resumed.{resumed, notResumed, saveOn, searchFrom, loadOn, resumeFrom}
-use Rattle.replies.specs.ReadOut.{ReadOut, readOut, notReadOut, readCheckpoint, readLoaded, readBytes}
+use Rattle.replies.specs.Apart.{FoundBy, cleared}
+use Rattle.replies.specs.Resumed.{Resumed, resumed, notResumed, whenAccepted, saveOn, searchFrom, loadOn, resumeFrom}
+use Rattle.replies.specs.ReadOut.{ReadOut, readOut, notReadOut, heldIn, readCheckpoint, readLoaded, readBytes}
+use Rattle.replies.proofs.CallKept.{Ways, Positive, save-kept, search-kept}
 
 module _ (P : Problem) (c : Checkpoint) (budget : ℕ) (workspace next : List ℕ)
-    (r : Searched) (words : List ℕ) (called : calledOf r words ≡ searchCall P c budget workspace) (t : Reply)
+    (r : Searched) (called : FoundBy r (searchCall P c budget workspace))
   where
-    -- A search call that gives a ceiling is saved.
-    pub search-saved : (ceiling : ℕ) → r .answer ≡ SearchAnswer.Ceiling ceiling → (s : SaveAnswer) (after : List ℕ)
-        → savingOf s after ≡ saving P (r .checkpoint) next → t ≡ replyOf (saveAnswer s)
-        → resumed t ceiling words after ≡ searchFrom P c budget workspace next
-    unfolding searchFrom
-    search-saved ceiling arm s after saved replied =
-        ap (λ (u : Reply). resumed u ceiling words after) replied
-        ∙ ap (λ (w : Writing). resumed (replyOf (w .answer)) ceiling words (w .buffer)) saved
-        ∙ ap (λ (a : SearchAnswer). saveOn P (calledOf (record { answer = a; checkpoint = r .checkpoint }) words) next) (sym arm)
-        ∙ ap (λ (q : Called). saveOn P q next) called
+    -- the workspace that the call leaves
+    abbrev left : List ℕ
+    left = searchCall P c budget workspace .workspace
+
+    -- the call with this answer
+    abbrev with-answer : SearchAnswer → Called
+    with-answer a = calledOf (record { answer = a; checkpoint = r .checkpoint }) left
+
+    module _ (ceiling : ℕ) (arm : r .answer ≡ SearchAnswer.Ceiling ceiling) where
+      -- A call that gives a ceiling was lent the words that it needs, and clears them.
+      pub accepted-words : (wordsNeeded ≤ length workspace) × (left ≡ cleared workspace)
+      accepted-words =
+          let e : searchCall P c budget workspace .answer ≡ accepted ceiling = sym (ap (λ (q : Called). q .answer) called) ∙ ap searchAnswer arm in
+          subst
+          (λ (a : Answer). Ways RefusalNumber ((wordsNeeded ≤ length workspace) × (left ≡ cleared workspace))
+          ((left ≡ workspace) × (searchCall P c budget workspace .checkpoint ≡ c)) a) e
+          (search-kept P c budget workspace)
+
+      module _ (s : SaveAnswer) (after : List ℕ) (saves : savingOf s after ≡ saving P (r .checkpoint) next) where
+        -- what is saved of the call, by the answer of the save
+        abbrev by-save : SaveAnswer → Resumed
+        by-save s =
+            whenAccepted (saveAnswer s) (λ (count : ℕ). resumed (reply 0 count) ceiling left after) (notResumed workspace next)
+
+        saved-call : by-save s ≡ searchFrom P c budget workspace next
+        unfolding searchFrom
+        saved-call =
+            ap (λ (w : Writing). whenAccepted (w .answer) (λ count. resumed (reply 0 count) ceiling left (w .buffer)) (notResumed workspace next)) saves
+            ∙ ap (λ (a : SearchAnswer). saveOn P (with-answer a) workspace next) (sym arm)
+            ∙ ap (λ (q : Called). saveOn P q workspace next) called
+
+        -- Saved, its count and ceiling are returned, and the lent words are cleared.
+        pub search-saved : (count : ℕ) → s ≡ SaveAnswer.Written count → (words : List ℕ) → words ≡ cleared workspace
+            → resumed (reply 0 count) ceiling words after ≡ searchFrom P c budget workspace next
+        search-saved count written words clear =
+            ap (λ (w : List ℕ). resumed (reply 0 count) ceiling w after) (clear ∙ sym (accepted-words .1))
+            ∙ ap by-save (sym written)
+            ∙ saved-call
+
+        -- the arm `_`: 1 to 3 are the tags of a save's refusals
+        off-save : (a : SaveAnswer) → OneOf (1 ∷ 2 ∷ 3 ∷ []) (tagOf save-tags.the-type a) → notResumed workspace next (saveAnswer a) ≡ by-save a
+        off-save (SaveAnswer.Written n) k = absurd (miss (1 ∷ 2 ∷ 3 ∷ []) 0 tt k)
+        off-save (SaveAnswer.Flawed f) k = refl
+        off-save SaveAnswer.OutOfShape k = refl
+        off-save SaveAnswer.TooShort k = refl
+
+        -- a refused save leaves the buffer as it was
+        unsaved : OneOf (1 ∷ 2 ∷ 3 ∷ []) (tagOf save-tags.the-type s) → after ≡ next
+        unsaved = go s (subst (λ (w : Writing). Ways Positive (Unit {0}) (w .buffer ≡ next) (w .answer)) (sym saves) (save-kept P (r .checkpoint) next))
+          where
+            go : (a : SaveAnswer) → Ways Positive (Unit {0}) (after ≡ next) (saveAnswer a) → OneOf (1 ∷ 2 ∷ 3 ∷ []) (tagOf save-tags.the-type a) → after ≡ next
+            go (SaveAnswer.Written n) h k = absurd (miss (1 ∷ 2 ∷ 3 ∷ []) 0 tt k)
+            go (SaveAnswer.Flawed f) h k = h .1
+            go SaveAnswer.OutOfShape h k = h .1
+            go SaveAnswer.TooShort h k = h .1
+
+        -- Not saved, the refusal is handed on, and both lent buffers are as they were.
+        pub search-unsaved : OneOf (1 ∷ 2 ∷ 3 ∷ []) (tagOf save-tags.the-type s) → (t : Reply) → t ≡ replyOf (saveAnswer s)
+            → resumed t 0 workspace after ≡ searchFrom P c budget workspace next
+        search-unsaved arm t replied =
+            ap (λ (b : List ℕ). resumed t 0 workspace b) (unsaved arm)
+            ∙ ap (λ (u : Reply). resumed u 0 workspace next) replied
+            ∙ off-save s arm
+            ∙ saved-call
 
     -- the arm `_`: 1 to 4 are the tags of the answers that are no ceiling
-    off : (a : SearchAnswer) → OneOf (1 ∷ 2 ∷ 3 ∷ 4 ∷ []) (tagOf search-tags.the-type a)
-        → notResumed words next (searchAnswer a) ≡ saveOn P (calledOf (record { answer = a; checkpoint = r .checkpoint }) words) next
-    off (SearchAnswer.Ceiling n) k = absurd (miss (1 ∷ 2 ∷ 3 ∷ 4 ∷ []) 0 tt k)
-    off (SearchAnswer.Flawed f) k = refl
-    off SearchAnswer.OutOfShape k = refl
-    off SearchAnswer.FewWords k = refl
-    off SearchAnswer.ManySteps k = refl
+    off-search : (a : SearchAnswer) → OneOf (1 ∷ 2 ∷ 3 ∷ 4 ∷ []) (tagOf search-tags.the-type a)
+        → notResumed workspace next (searchAnswer a) ≡ saveOn P (with-answer a) workspace next
+    off-search (SearchAnswer.Ceiling n) k = absurd (miss (1 ∷ 2 ∷ 3 ∷ 4 ∷ []) 0 tt k)
+    off-search (SearchAnswer.Flawed f) k = refl
+    off-search SearchAnswer.OutOfShape k = refl
+    off-search SearchAnswer.FewWords k = refl
+    off-search SearchAnswer.ManySteps k = refl
 
-    -- One that is refused is handed on.
-    pub search-refused : OneOf (1 ∷ 2 ∷ 3 ∷ 4 ∷ []) (tagOf search-tags.the-type (r .answer)) → t ≡ replyOf (searchAnswer (r .answer))
-        → resumed t 0 words next ≡ searchFrom P c budget workspace next
+    -- A call that is refused is handed on.
+    pub search-refused : OneOf (1 ∷ 2 ∷ 3 ∷ 4 ∷ []) (tagOf search-tags.the-type (r .answer)) → (t : Reply) → t ≡ replyOf (searchAnswer (r .answer))
+        → resumed t 0 workspace next ≡ searchFrom P c budget workspace next
     unfolding searchFrom
-    search-refused arm replied =
-        ap (λ (u : Reply). resumed u 0 words next) replied
-        ∙ off (r .answer) arm
-        ∙ ap (λ (q : Called). saveOn P q next) called
-
--- A mapping with too little room is refused.
-pub read-short : (P : Problem) (bytes mapping : List ℕ) → length mapping < 64 → notReadOut mapping tooShort ≡ readBytes P bytes mapping
-unfolding readBytes
-read-short P bytes mapping short = simp (lt-leb _ _ short)
-
-read-room : (P : Problem) (bytes mapping : List ℕ) → 64 ≤ length mapping → readLoaded P (loading P bytes) mapping ≡ readBytes P bytes mapping
-unfolding readBytes
-read-room P bytes mapping room = simp (le-leb _ _ room)
+    search-refused arm t replied =
+        ap (λ (u : Reply). resumed u 0 workspace next) replied
+        ∙ off-search (r .answer) arm
+        ∙ ap (λ (q : Called). saveOn P q workspace next) called
 
 module _ (P : Problem) (bytes : List ℕ) (r : Loaded) (loads : loadingOf r ≡ loading P bytes) where
   -- the load, with this answer
@@ -89,13 +141,12 @@ module _ (P : Problem) (bytes : List ℕ) (r : Loaded) (loads : loadingOf r ≡ 
         ∙ ap (λ (l : Loading). loadOn P l budget workspace next) loads
 
     -- It is read out.
-    pub load-read : (mapping : List ℕ) → 64 ≤ length mapping → (x : ReadOut) → x ≡ readCheckpoint P (r .checkpoint) mapping
-        → x ≡ readBytes P bytes mapping
-    load-read mapping room x out =
+    pub load-read : (mapping : List ℕ) (x : ReadOut) → x ≡ readCheckpoint P (r .checkpoint) mapping → x ≡ readBytes P bytes mapping
+    unfolding readBytes
+    load-read mapping x out =
         out
         ∙ ap (λ (a : LoadAnswer). readLoaded P (by a) mapping) (sym arm)
         ∙ ap (λ (l : Loading). readLoaded P l mapping) loads
-        ∙ read-room P bytes mapping room
 
     -- It is for an old graph of at most 64 vertices.
     pub load-order : P .old .order ≤ 64
@@ -119,12 +170,12 @@ module _ (P : Problem) (bytes : List ℕ) (r : Loaded) (loads : loadingOf r ≡ 
         off-search LoadAnswer.OutOfShape k = refl
 
     -- Nor is anything read out.
-    pub load-not-read : (mapping : List ℕ) → 64 ≤ length mapping → notReadOut mapping t ≡ readBytes P bytes mapping
-    load-not-read mapping room =
+    pub load-not-read : (mapping : List ℕ) → notReadOut mapping t ≡ readBytes P bytes mapping
+    unfolding readBytes
+    load-not-read mapping =
         ap (notReadOut mapping) replied
         ∙ off-read (r .answer) arm
         ∙ ap (λ (l : Loading). readLoaded P l mapping) loads
-        ∙ read-room P bytes mapping room
       where
         off-read : (a : LoadAnswer) → OneOf (1 ∷ 2 ∷ 3 ∷ []) (tagOf load-tags.the-type a)
             → notReadOut mapping (replyOf (loadAnswer a)) ≡ readLoaded P (by a) mapping
@@ -133,11 +184,28 @@ module _ (P : Problem) (bytes : List ℕ) (r : Loaded) (loads : loadingOf r ≡ 
         off-read (LoadAnswer.Malformed at) k = refl
         off-read LoadAnswer.OutOfShape k = refl
 
--- What is read out is a checkpoint's, number by number.
-pub read-numbers : (P : Problem) (c : Checkpoint) (mapping : List ℕ) (state count ceiling : ℕ) (after : List ℕ) (r : Searched) (words : List ℕ)
-    → state ≡ stateByte (c .finished) (c .holds) → count ≡ cond (c .holds) (size (take (P .old .order) (c .incumbent))) 0
-    → after ≡ cond (c .holds) (overwrite (take (P .old .order) (c .incumbent)) mapping) mapping
-    → calledOf r words ≡ searchCall P c 0 (replicate wordsNeeded 0) → ceiling ≡ valueOf (searchAnswer (r .answer))
-    → readOut (reply 0 state) (c .steps) count ceiling after ≡ readCheckpoint P c mapping
-unfolding readCheckpoint
-read-numbers P c mapping state count ceiling after r words p q s called t = rw (p, q, s, t, ← called)
+-- as many entries as are held
+held-length : (P : Problem) (c : Checkpoint) (entries : ℕ) → entries ≡ cond (c .holds) (P .old .order) 0 → P .old .order ≤ 64
+    → length (c .incumbent) ≡ 64 → length (heldIn P c) ≡ entries
+held-length P c entries e few long = length-take-le _ _ (omega (arith, incumbent-few (P .old .order) (c .holds))) ∙ sym e
+
+module _ (P : Problem) (c : Checkpoint) (mapping : List ℕ) (entries : ℕ) (held : entries ≡ cond (c .holds) (P .old .order) 0)
+    (few : P .old .order ≤ 64) (long : length (c .incumbent) ≡ 64)
+  where
+    -- A held mapping that does not fit is refused.
+    pub read-short : length mapping < entries → notReadOut mapping tooShort ≡ readCheckpoint P c mapping
+    unfolding readCheckpoint
+    read-short short =
+        let e : length mapping < length (heldIn P c) = omega (arith, held-length P c entries held few long) in
+        simp (lt-leb _ _ e)
+
+    -- What is read out is a checkpoint's, number by number.
+    pub read-numbers : entries ≤ length mapping → (state count ceiling : ℕ) (after : List ℕ) (r : Searched) (words : List ℕ)
+        → state ≡ stateByte (c .finished) (c .holds) → count ≡ size (take entries (c .incumbent))
+        → after ≡ overwrite (take entries (c .incumbent)) mapping
+        → calledOf r words ≡ searchCall P c 0 (replicate wordsNeeded 0) → ceiling ≡ valueOf (searchAnswer (r .answer))
+        → readOut (reply 0 state) (c .steps) count ceiling after ≡ readCheckpoint P c mapping
+    unfolding readCheckpoint
+    read-numbers room state count ceiling after r words p q s called t =
+        let e : length (heldIn P c) ≤ length mapping = omega (arith, held-length P c entries held few long) in
+        rw (le-leb _ _ e, p, q, s, t, held, ← called)

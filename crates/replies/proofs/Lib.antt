@@ -1,1 +1,2 @@
+pub mod CallKept
 pub mod CallArms

@@ -1,4 +1,5 @@
 pub mod Reply
 pub mod Checked
+pub mod Apart
 pub mod Resumed
 pub mod ReadOut

@@ -8,7 +8,7 @@ use Rattle.answers.specs.Answer.{Answer, valueOf, whenPassed}
 use Rattle.answers.specs.Output.{overwrite}
 use Rattle.problem.specs.Problem.{Problem}
 use Rattle.mapping.specs.Common.{size}
-use Rattle.search.specs.declared.checkpoint.Checkpoint.{Checkpoint}
+use Rattle.checkpoint.specs.declared.Checkpoint.{Checkpoint}
 use Rattle.search.specs.Call.{wordsNeeded, searchCall}
 use Rattle.checkpoint_bytes.specs.Saving.{stateByte}
 use Rattle.checkpoint_bytes.specs.Loading.{Loading, loading}
@@ -29,16 +29,21 @@ readOut r steps size ceiling mapping = record { reply = r; steps = steps; size =
 abbrev pub notReadOut : List ℕ → Reply → ReadOut
 notReadOut mapping r = readOut r 0 0 0 mapping
 
--- state, steps, and what is held; the ceiling is that of a call that makes no visit
+-- the mapping that is held, or nothing
+abbrev pub heldIn : Problem → Checkpoint → List ℕ
+heldIn P c = take (cond (c .holds) (P .old .order) 0) (c .incumbent)
+
+-- state, steps, and what is held, where it fits into the lent mapping; the ceiling is that of a call that makes no visit
 unfoldable pub readCheckpoint : Problem → Checkpoint → List ℕ → ReadOut
 readCheckpoint P c mapping =
-    let held = take (P .old .order) (c .incumbent) in
-    readOut (reply 0 (stateByte (c .finished) (c .holds))) (c .steps) (cond (c .holds) (size held) 0)
-    (valueOf (searchCall P c 0 (replicate wordsNeeded 0) .answer)) (cond (c .holds) (overwrite held mapping) mapping)
+    let held = heldIn P c in
+    cond (leb (length held) (length mapping))
+    (readOut (reply 0 (stateByte (c .finished) (c .holds))) (c .steps) (size held)
+    (valueOf (searchCall P c 0 (replicate wordsNeeded 0) .answer)) (overwrite held mapping))
+    (notReadOut mapping tooShort)
 
 abbrev pub readLoaded : Problem → Loading → List ℕ → ReadOut
 readLoaded P l mapping = whenPassed (l .answer) (readCheckpoint P (l .checkpoint) mapping) (λ (refusal : Answer). notReadOut mapping (replyOf refusal))
 
--- the lent mapping has room for 64 entries, tested first
 unfoldable pub readBytes : Problem → List ℕ → List ℕ → ReadOut
-readBytes P bytes mapping = cond (leb 64 (length mapping)) (readLoaded P (loading P bytes) mapping) (notReadOut mapping tooShort)
+readBytes P bytes mapping = readLoaded P (loading P bytes) mapping

@@ -3,12 +3,12 @@ use mathlib.Core.List.{List}
 use Prim.Native.Nat.{ℕ}
 use Rattle.answers.specs.Answer.{Answer, passed, refused, refusedAt, onAnswer, whenPassed}
 use Rattle.problem.specs.Problem.{Problem}
-use Rattle.search.specs.declared.checkpoint.Checkpoint.{Checkpoint}
+use Rattle.checkpoint.specs.declared.Checkpoint.{Checkpoint}
 use Rattle.search.specs.Call.{Called, searchCall}
 use Rattle.checkpoint_bytes.specs.Saving.{saving}
 use Rattle.checkpoint_bytes.specs.Loading.{Loading, loading}
 use Rattle.replies.specs.declared.Reply.{Reply}
-use Rattle.replies.specs.Reply.{replyOf}
+use Rattle.replies.specs.Reply.{reply, replyOf}
 
 -- the reply, the ceiling, and both lent buffers afterwards
 pub record Resumed : Type 0 where
@@ -24,16 +24,21 @@ resumed r ceiling workspace next = record { reply = r; ceiling = ceiling; worksp
 abbrev pub notResumed : List ℕ → List ℕ → Answer → Resumed
 notResumed workspace next refusal = resumed (replyOf refusal) 0 workspace next
 
--- a search call that gives a ceiling is saved; any other answer is a refusal, handed on as it is
-abbrev pub saveOn : Problem → Called → List ℕ → Resumed
-saveOn P r next =
+-- what follows on an accepted answer's value; any other answer is a refusal, handed on as it is
+abbrev pub whenAccepted : {A : Type 0} → Answer → (ℕ → A) → (Answer → A) → A
+whenAccepted answer next refusal =
+    onAnswer (refusal passed) next (λ number. refusal (refused number)) (λ number at. refusal (refusedAt number at)) answer
+
+-- a search call on the lent workspace, then its checkpoint saved; where either is refused, 13 for the bytes included, both buffers are as they were
+abbrev pub saveOn : Problem → Called → List ℕ → List ℕ → Resumed
+saveOn P r workspace next =
     let w = saving P (r .checkpoint) next in
-    let refusal = notResumed (r .workspace) next in
-    onAnswer (refusal passed) (λ ceiling. resumed (replyOf (w .answer)) ceiling (r .workspace) (w .buffer))
-    (λ number. refusal (refused number)) (λ number at. refusal (refusedAt number at)) (r .answer)
+    let refusal = notResumed workspace next in
+    whenAccepted (r .answer) (λ ceiling.
+    whenAccepted (w .answer) (λ count. resumed (reply 0 count) ceiling (r .workspace) (w .buffer)) refusal) refusal
 
 unfoldable pub searchFrom : Problem → Checkpoint → ℕ → List ℕ → List ℕ → Resumed
-searchFrom P c budget workspace next = saveOn P (searchCall P c budget workspace) next
+searchFrom P c budget workspace next = saveOn P (searchCall P c budget workspace) workspace next
 
 abbrev pub loadOn : Problem → Loading → ℕ → List ℕ → List ℕ → Resumed
 loadOn P l budget workspace next =

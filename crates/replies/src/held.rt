@@ -7,9 +7,16 @@ ghost use lib.ListN.{length, take};
 ghost use Rattle.answers.specs.Output.{overwrite};
 ghost use Rattle.mapping.specs.Common.{size};
 
+// How many entries are held: the old order, or none.
+pub fn entries_held(holds: bool, order: usize) -> usize
+    ensures { λ r. ⌜ r ≡ cond holds order 0 ⌝ }
+{
+    if holds { order } else { 0 }
+}
+
 // The first `k` entries of a list, to the front of `out`.
 fn put_front(list: &[u8], k: usize, out: &mut [u8])
-    requires { ⌜ (length (now list) ≡ 64) × (k ≤ 64) × (64 ≤ length (now out)) ⌝ }
+    requires { ⌜ (length (now list) ≡ 64) × (k ≤ 64) × (k ≤ length (now out)) ⌝ }
     ensures { λ _. ⌜ now (out .exit) ≡ overwrite (take k (now (list .entry))) (now (out .entry)) ⌝ }
 {
     let mut i = 0;
@@ -19,16 +26,12 @@ fn put_front(list: &[u8], k: usize, out: &mut [u8])
     }
 }
 
-// What is held, if anything is, to the front of `out`; its size, or 0.
-pub fn put_incumbent(holds: bool, incumbent: &[u8], order: usize, out: &mut [u8]) -> u64
-    requires { ⌜ (length (now incumbent) ≡ 64) × (order ≤ 64) × (64 ≤ length (now out)) ⌝ }
-    ensures size { λ r. ⌜ r ≡ cond holds (size (take order (now (incumbent .entry)))) 0 ⌝ }
-    ensures held { λ _. ⌜ now (out .exit)
-        ≡ cond holds (overwrite (take order (now (incumbent .entry))) (now (out .entry))) (now (out .entry)) ⌝ }
+// The same, and how many of them are pairs.
+pub fn put_entries(list: &[u8], k: usize, out: &mut [u8]) -> u64
+    requires { ⌜ (length (now list) ≡ 64) × (k ≤ 64) × (k ≤ length (now out)) ⌝ }
+    ensures size { λ r. ⌜ r ≡ size (take k (now (list .entry))) ⌝ }
+    ensures stored { λ _. ⌜ now (out .exit) ≡ overwrite (take k (now (list .entry))) (now (out .entry)) ⌝ }
 {
-    if !holds {
-        return 0;
-    }
-    put_front(incumbent, order, out);
-    mapping::mapping_size(&incumbent[..order]) as u64
+    put_front(list, k, out);
+    mapping::mapping_size(&list[..k]) as u64
 }

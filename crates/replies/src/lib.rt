@@ -2,21 +2,21 @@
 
 mod held;
 mod values;
+mod words;
 
+use checkpoint::Checkpoint;
 use checkpoint_bytes::LoadAnswer;
 use checkpoint_bytes::SaveAnswer;
-use graph::MAX_ORDER;
 use graph_reader::ReadAnswer;
 use mapping::MappingAnswer;
 use problem::Edges;
 use problem::Labels;
 use problem::Orders;
-use search::Checkpoint;
 use search::SearchAnswer;
 use search::WORDS;
 ghost use mathlib.Core.Path.{_≡_};
 ghost use Prim.Native.Nat.{_≤_};
-ghost use lib.ListN.{length, getD};
+ghost use lib.ListN.{getD};
 ghost use Rattle.graph_reader.specs.Answers.{readAnswer};
 ghost use Rattle.problem.specs.Lent.{lent};
 ghost use Rattle.mapping.specs.Answers.{mappingOutcome};
@@ -101,7 +101,7 @@ pub fn of_mapping(answer: MappingAnswer) -> MappingReply
     }
 }
 
-// The search call, and its checkpoint saved.
+// The search call, and its checkpoint saved; only then does the lent workspace become what the call leaves.
 fn search_and_save<'a>(
     orders: Orders,
     labels: Labels<'a>,
@@ -114,20 +114,30 @@ fn search_and_save<'a>(
     ensures { λ r. ⌜ resumed (r .reply) (r .ceiling) (now (workspace .exit)) (now (next .exit))
         ≡ searchFrom (lent orders (labels .entry) (edges .entry)) checkpoint budget (now (workspace .entry)) (now (next .entry)) ⌝ }
 {
-    let searched = search::search(orders, labels, edges, checkpoint, budget, workspace);
+    let lent = workspace.len();
+    let searched = words::search_apart(orders, labels, edges, checkpoint, budget, lent);
     let answer = searched.answer;
     let advanced = searched.checkpoint;
     match answer {
-        SearchAnswer::Ceiling(ceiling) => ResumeReply {
-            reply: of_save(checkpoint_bytes::save_checkpoint(
-                orders,
-                labels,
-                edges,
-                advanced,
-                next,
-            )),
-            ceiling: ceiling as u64,
-        },
+        SearchAnswer::Ceiling(ceiling) => {
+            let saved = checkpoint_bytes::save_checkpoint(orders, labels, edges, advanced, next);
+            match saved {
+                SaveAnswer::Written(count) => {
+                    words::clear_words(workspace);
+                    ResumeReply {
+                        reply: Reply {
+                            number: 0,
+                            value: count as u64,
+                        },
+                        ceiling: ceiling as u64,
+                    }
+                }
+                _ => ResumeReply {
+                    reply: of_save(saved),
+                    ceiling: 0,
+                },
+            }
+        }
         _ => ResumeReply {
             reply: of_search(answer),
             ceiling: 0,
@@ -168,7 +178,7 @@ pub fn resume<'a>(
     }
 }
 
-// The numbers of a checkpoint, and what it holds.
+// The numbers of a checkpoint, and what it holds, to the front of `mapping`.
 fn read_checkpoint<'a>(
     orders: Orders,
     labels: Labels<'a>,
@@ -176,16 +186,28 @@ fn read_checkpoint<'a>(
     checkpoint: Checkpoint,
     mapping: &mut [u8],
 ) -> ReadReply
-    requires { ⌜ (getD orders 0 0 ≤ 64) × (64 ≤ length (now mapping)) ⌝ }
+    requires { ⌜ getD orders 0 0 ≤ 64 ⌝ }
     ensures { λ r. ⌜ readOut (r .reply) (r .steps) (r .size) (r .ceiling) (now (mapping .exit))
         ≡ readCheckpoint (lent orders (labels .entry) (edges .entry)) checkpoint (now (mapping .entry)) ⌝ }
 {
+    let entries = held::entries_held(checkpoint.holds, orders[0]);
+    if mapping.len() < entries {
+        return ReadReply {
+            reply: Reply {
+                number: 13,
+                value: 0,
+            },
+            steps: 0,
+            size: 0,
+            ceiling: 0,
+        };
+    }
     let mut workspace = [0u64; WORDS];
     let searched = search::search(orders, labels, edges, checkpoint, 0, &mut workspace);
     let answer = searched.answer;
     let incumbent = checkpoint.incumbent;
     let ceiling = values::search_value(answer);
-    let size = held::put_incumbent(checkpoint.holds, &incumbent, orders[0], mapping);
+    let size = held::put_entries(&incumbent, entries, mapping);
     ReadReply {
         reply: Reply {
             number: 0,
@@ -197,7 +219,7 @@ fn read_checkpoint<'a>(
     }
 }
 
-// The checkpoint loaded, and read out; the mapping that it holds goes to the front of `mapping`, which has room for 64 entries.
+// The checkpoint loaded, and read out.
 pub fn read_out<'a>(
     orders: Orders,
     labels: Labels<'a>,
@@ -208,17 +230,6 @@ pub fn read_out<'a>(
     ensures { λ r. ⌜ readOut (r .reply) (r .steps) (r .size) (r .ceiling) (now (mapping .exit))
         ≡ readBytes (lent orders (labels .entry) (edges .entry)) (now (bytes .entry)) (now (mapping .entry)) ⌝ }
 {
-    if mapping.len() < MAX_ORDER {
-        return ReadReply {
-            reply: Reply {
-                number: 13,
-                value: 0,
-            },
-            steps: 0,
-            size: 0,
-            ceiling: 0,
-        };
-    }
     let loaded = checkpoint_bytes::load_checkpoint(orders, labels, edges, bytes);
     let answer = loaded.answer;
     let checkpoint = loaded.checkpoint;

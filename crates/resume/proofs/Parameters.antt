@@ -29,7 +29,7 @@ use denote.Ref.{RefT}
 use denote.Slice.{MutSlice, ShrSlice, slice-vals, shr-slice-tells, shr-slice-lawful}
 use denote.Steps.{nothing}
 use Rattle.problem.specs.Lent.{lent}
-use Rattle.search.specs.declared.checkpoint.Checkpoint.{Checkpoint}
+use Rattle.checkpoint.specs.declared.Checkpoint.{Checkpoint}
 use Rattle.search.specs.Call.{Called, searchCall}
 
 -- ---- of lifetimes and of shares, two or three

@@ -9,11 +9,11 @@ use types.Kit.{Given}
 use denote.Laws.{Is}
 use denote.Struct.Laws as LL
 use denote.Enum.Laws as EL
-use Rattle.search.specs.declared.checkpoint.Checkpoint.{Checkpoint}
+use Rattle.checkpoint.specs.declared.Checkpoint.{Checkpoint}
 use Rattle.search.specs.declared.SearchAnswer.{SearchAnswer}
 use Rattle.search.specs.declared.Searched.{Searched}
-use Rattle.search.proofs.checkpoint.Checkpoint as C
-use Rattle.search.proofs.checkpoint.Checkpoint.Laws as C′
+use Rattle.checkpoint.proofs.Checkpoint as C
+use Rattle.checkpoint.proofs.Checkpoint.Laws as C′
 use Rattle.search.proofs.SearchAnswer as N
 use Rattle.search.proofs.SearchAnswer.Laws as N′
 use Rattle.search.proofs.Searched as S

@@ -1,7 +1,7 @@
 -- A search call on a lent checkpoint, as the call it comes to: 01, "Bookmark and calls", second paragraph.
 use mathlib.Core.List.{List}
 use Prim.Native.Nat.{ℕ}
-use Rattle.search.specs.declared.checkpoint.Checkpoint.{Checkpoint}
+use Rattle.checkpoint.specs.declared.Checkpoint.{Checkpoint}
 use Rattle.search.specs.declared.SearchAnswer.{SearchAnswer}
 use Rattle.search.specs.Call.{Called}
 use Rattle.search.specs.Answers.{searchAnswer}

@@ -1,15 +1,15 @@
 // The search call on a checkpoint that the caller lends: thin functions over `search::search`, which takes the checkpoint by value.
 
+use checkpoint::Checkpoint;
 use problem::Edges;
 use problem::Labels;
 use problem::Orders;
-use search::Checkpoint;
 use search::SearchAnswer;
 use search::Searched;
 ghost use mathlib.Core.Path.{_≡_};
 ghost use Rattle.problem.specs.Lent.{lent};
 ghost use Rattle.search.specs.Call.{searchCall};
-ghost use Rattle.search.specs.Checkpoints.{freshCheckpoint};
+ghost use Rattle.checkpoint.specs.Checkpoints.{freshCheckpoint};
 ghost use Rattle.search.specs.Answers.{calledOf};
 ghost use Rattle.resume.specs.Lent.{lentCall};
 

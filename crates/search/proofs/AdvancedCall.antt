@@ -11,17 +11,16 @@ use Rattle.mapping.specs.Common.{size}
 use Rattle.search_tree.specs.Rules.{rulesOf}
 use Rattle.search_tree.specs.Search.{searchOf}
 use Rattle.search_tree.specs.Trees.{Reached}
-use Rattle.search_tree.specs.Walk.{State}
 use Rattle.search_tree.specs.Ceiling.{ceiling}
 use Rattle.search.specs.declared.walk.Walk.{Walk}
-use Rattle.search.specs.declared.checkpoint.Checkpoint.{Checkpoint}
-use Rattle.search.specs.Checkpoints.{checkpointOf, stateOf, InShape}
+use Rattle.checkpoint.specs.declared.Checkpoint.{Checkpoint}
+use Rattle.checkpoint.specs.Checkpoints.{stateOf, InShape}
 use Rattle.search.specs.Call.{Called, visits, advance}
-use Rattle.search.specs.Words.{Masks, Words}
-use Rattle.search.specs.Walking.{Setting, AtNode, InBounds, walkState, Starts, Visited}
+use Rattle.search.specs.Words.{Masks, Later, Words}
+use Rattle.search.specs.Walking.{Setting, AtNode, InBounds, Ready, Arrives}
 use Rattle.search.proofs.ReachedBounds.{reached-in-bounds}
-use Rattle.search.proofs.ResumedWalk.{visited-state}
-use Rattle.search.proofs.ShapeKept.{state-in-shape, advance-in-shape}
+use Rattle.search.proofs.RunTurn.{arrived-minimum, arrived-state}
+use Rattle.checkpoint.proofs.StateShape.{state-in-shape}
 
 -- words of which none is past the cleared ones are all cleared
 all-cleared : (m : ℕ) (zeros before after cleared : List ℕ) → length before ≤ m → length after ≤ m → cleared ≡ zeros ++ drop m before
@@ -46,10 +45,10 @@ module _ {P : Problem} {c : Checkpoint} (call : Accepted P c) where
   call-setting filled = record { sound = call .sound; order-is = refl; edges-is = refl; masks-are = filled }
 
   -- The checkpoint's path is in bounds.
-  pub call-bounds : {masks ws : List ℕ} → Masks (graph (P .new .order) [] (P .new .edges)) masks → 4160 ≤ length ws
-      → InBounds (P .old .edges) masks (c .path) (c .depth) (size (take (c .depth) (c .path))) ws
-  call-bounds filled room =
-      reached-in-bounds (c .path) (c .depth) (call-setting filled) shape-reached (call .shape .depth-max) (call .path-long) room
+  pub call-bounds : {masks later ws : List ℕ} → Masks (graph (P .new .order) [] (P .new .edges)) masks → Later (P .old .edges) later
+      → 4160 ≤ length ws → InBounds (P .old .edges) masks later (c .path) (c .depth) (size (take (c .depth) (c .path))) ws
+  call-bounds filled later-are room =
+      reached-in-bounds (c .path) (c .depth) (call-setting filled) later-are shape-reached (call .shape .depth-max) (call .path-long) room
 
   -- Once the words of its ancestors are there, the checkpoint is at a node.
   pub call-node : {ws : List ℕ} → 4160 ≤ length ws → Words P (c .path) (c .depth - 1) ws
@@ -63,34 +62,20 @@ module _ {P : Problem} {c : Checkpoint} (call : Accepted P c) where
     words = words;
   }
 
-  module _ {budget : ℕ} {ws : List ℕ} {end : Checkpoint} (visited : Visited P budget c ws end) where
-    -- The checkpoint that the visits leave is in shape.
-    pub visited-shape : InShape P end
-    unfolding advance
-    visited-shape = rw (visited .checkpoint-is) (advance-in-shape P (call .sound) c (call .path-long) (call .shape) budget [])
-
-    -- the visits keep the minimum
-    visited-minimum : end .minimum ≡ c .minimum
-    unfolding checkpointOf
-    visited-minimum = ap (λ (x : Checkpoint). x .minimum) (visited .checkpoint-is)
-
-    -- The checkpoint that the visits leave, the ceiling there and the cleared workspace are what an accepted call gives.
-    pub call-arrives : {walk : Walk} {top : ℕ} (lent before : List ℕ) {cleared : List ℕ} → Starts (P .old .order) end walk
-        → top ≡ ceiling (rulesOf P) (end .minimum) (walkState (P .old .order) walk (end .path) (end .incumbent))
-        → length lent ≡ 4160 → length before ≡ 4160 → cleared ≡ replicate 4160 0 ++ drop 4160 before
-        → _≡_ {A = Called} (record { answer = accepted top; checkpoint = end; workspace = cleared }) (advance P c budget lent)
-    unfolding advance
-    call-arrives {walk} {top} lent before {cleared} starts top-is whole kept clear = λ i. record {
-      answer = accepted (answer-is i);
-      checkpoint = visited .checkpoint-is i;
-      workspace = all-cleared 4160 (replicate 4160 0) before lent cleared (omega arith) (omega arith) clear i;
-    }
-      where
-        s : State
-        s = visits (searchOf P) (c .minimum) budget (stateOf (P .old .order) c)
-
-        state-is : walkState (P .old .order) walk (end .path) (end .incumbent) ≡ s
-        state-is = starts .state-is ∙ visited-state (call .sound) (call .shape) (call .path-long) visited
-
-        answer-is : top ≡ ceiling (rulesOf P) (c .minimum) s
-        answer-is = top-is ∙ ap₂ (ceiling (rulesOf P)) visited-minimum state-is
+  -- The checkpoint that the visits leave, the ceiling there and the cleared workspace are what an accepted call gives.
+  pub call-arrives : {edges masks ws ws′ : List ℕ} {w end : Walk} (budget top : ℕ) (lent before : List ℕ) {cleared : List ℕ}
+      → Setting P (P .old .order) edges masks → w .checkpoint ≡ c → Ready P w ws
+      → Arrives P (w .checkpoint .minimum) (visits (searchOf P) (w .checkpoint .minimum) budget (stateOf (P .old .order) (w .checkpoint))) end ws′
+      → top ≡ ceiling (rulesOf P) (end .checkpoint .minimum) (stateOf (P .old .order) (end .checkpoint))
+      → length lent ≡ 4160 → length before ≡ 4160 → cleared ≡ replicate 4160 0 ++ drop 4160 before
+      → _≡_ {A = Called} (record { answer = accepted top; checkpoint = end .checkpoint; workspace = cleared }) (advance P c budget lent)
+  unfolding advance
+  call-arrives {w = w} {end = end} budget top lent before {cleared} setting begun ready there top-is whole kept clear = rw (← begun) (λ i. record {
+    answer = accepted (answer-is i);
+    checkpoint = there .checkpoint-is i;
+    workspace = all-cleared 4160 (replicate 4160 0) before lent cleared (omega arith) (omega arith) clear i;
+  })
+    where
+      answer-is : top ≡ ceiling (rulesOf P) (w .checkpoint .minimum)
+          (visits (searchOf P) (w .checkpoint .minimum) budget (stateOf (P .old .order) (w .checkpoint)))
+      answer-is = top-is ∙ ap₂ (ceiling (rulesOf P)) (arrived-minimum there) (arrived-state budget setting ready there)

@@ -4,8 +4,8 @@ use mathlib.Core.List.{List, [], _∷_, _++_}
 use Prim.Native.Nat.{ℕ, _+_}
 use native.Mathlib.Nat.{add-zero, zero-add, add-assoc}
 use Rattle.problem.specs.Problem.{Problem}
-use Rattle.search.specs.declared.checkpoint.Checkpoint.{Checkpoint}
-use Rattle.search.specs.Checkpoints.{freshCheckpoint}
+use Rattle.checkpoint.specs.declared.Checkpoint.{Checkpoint}
+use Rattle.checkpoint.specs.Checkpoints.{freshCheckpoint}
 use Rattle.search.specs.Calls.{Call, called, results, leaves, counted, summed, CallIn, upTo, reached, resultOf}
 
 module _ (P : Problem) where

@@ -8,8 +8,8 @@ use lib.ListN.{length, take, drop, replicate, drop-of-length-le, length-take}
 use borrow.Author.Tests.{le-leb, lt-leb}
 use Rattle.answers.specs.Answer.{passed, refused}
 use Rattle.problem.specs.Problem.{Problem}
-use Rattle.search.specs.declared.checkpoint.Checkpoint.{Checkpoint}
-use Rattle.search.specs.Checking.{checkpointAnswer}
+use Rattle.checkpoint.specs.declared.Checkpoint.{Checkpoint}
+use Rattle.checkpoint.specs.Checking.{checkpointAnswer}
 use Rattle.search.specs.Call.{Called, wordsNeeded, refuse, advance, countFits, searchCall}
 
 -- what is changed of a list's first m entries, with its later ones put back

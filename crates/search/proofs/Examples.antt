@@ -21,8 +21,8 @@ use Rattle.search_tree.specs.Search.{searchOf}
 use Rattle.search_tree.specs.Node.{candidate, candidates, upperBound, choices, children, choicesAfter, laterSiblings, openNodes}
 use Rattle.search_tree.specs.Walk.{State, visitPath, visit, after}
 use Rattle.search_tree.specs.Ceiling.{topBound, ceiling}
-use Rattle.search.specs.declared.checkpoint.Checkpoint.{Checkpoint}
-use Rattle.search.specs.Checkpoints.{freshCheckpoint, checkpointOf}
+use Rattle.checkpoint.specs.declared.Checkpoint.{Checkpoint}
+use Rattle.checkpoint.specs.Checkpoints.{freshCheckpoint, checkpointOf}
 use Rattle.search.specs.Call.{Called, wordsNeeded, arrive, searchCall}
 use Rattle.search.specs.ThirdProperty.{incumbentIn}
 use Rattle.search.proofs.WalkCall.{fresh-call}

@@ -12,13 +12,13 @@ use Rattle.search_tree.specs.Rules.{Rules, rulesOf}
 use Rattle.search_tree.specs.Search.{Search, searchOf}
 use Rattle.search_tree.specs.Walk.{State, cutoff}
 use Rattle.search_tree.specs.Ceiling.{ceiling}
-use Rattle.search.specs.declared.checkpoint.Checkpoint.{Checkpoint}
-use Rattle.search.specs.Checkpoints.{checkpointOf, stateOf, InShape}
+use Rattle.checkpoint.specs.declared.Checkpoint.{Checkpoint}
+use Rattle.checkpoint.specs.Checkpoints.{checkpointOf, stateOf, InShape}
 use Rattle.search.specs.Call.{Called, visits, wordsNeeded, arrive, advance, onPassed, searchCall}
 use Rattle.search.specs.ThirdProperty.{incumbentIn}
 use Rattle.search.proofs.RunTurn.{visits-finished as visits-stay}
-use Rattle.search.proofs.CheckpointPasses.{shape-passes}
-use Rattle.search.proofs.CheckpointState.{checkpoint-of-state}
+use Rattle.checkpoint.proofs.CheckpointPasses.{shape-passes}
+use Rattle.checkpoint.proofs.CheckpointState.{checkpoint-of-state}
 
 -- Visits leave a finished search as it is.
 pub visits-finished : (S : Search) (minimum k : ℕ) (s : State) → s .finished ≡ true → visits S minimum k s ≡ s

@@ -1,5 +1,5 @@
 -- The first child, from the least member of the next row's word.
-use mathlib.Core.Path.{_≡_, refl, sym}
+use mathlib.Core.Path.{_≡_, refl, sym, _∙_}
 use mathlib.Core.Logic.{inl, inr}
 use mathlib.Core.Bool.{false}
 use mathlib.Core.List.{List, _∷_}
@@ -8,7 +8,7 @@ use native.Mathlib.Nat.{le-refl}
 use native.Mathlib.Numerals.{add-one}
 use native.Mathlib.Omega.{arith}
 use lib.ListN.{length, take, set}
-use lib.Seq.{take-take}
+use lib.Seq.{take-take, getD-set-other}
 use Rattle.bitset.specs.Least.{leastMember}
 use Rattle.bitset.specs.declared.Least.the-variants.{Member, Empty}
 use Rattle.bitset.proofs.LeastBelow.{leastBelow-Member}
@@ -42,6 +42,7 @@ module _ {P : Problem} (sound : SoundProblem P) {path ws : List ℕ} {depth pair
         deeper = add-one depth;
         child = (rest, rw (stored-prefix path depth v inside) first);
         node = stored-node (node .path-length) (node .room) inside inner (node .reached) words choice (omega (arith, node .pairs-are));
+        rest-zero = λ zero i h b. getD-set-other path depth i v 0 (λ e. omega arith) ∙ zero i (omega arith) b;
       }
 
   -- The least member of the row's word is stored: the first child takes it.

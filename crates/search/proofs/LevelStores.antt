@@ -14,13 +14,13 @@ use Rattle.bitset.specs.Members.{member, insert}
 use Rattle.bitset.proofs.Membership.{member-zero, member-below}
 use Rattle.bitset.proofs.SetOf.{setOf-lt, member-setOf}
 use Rattle.search.specs.Words.{openSet, levelWord, SameLevels}
-use Rattle.search.proofs.Levels.{word-open, word-closed}
+use Rattle.search.proofs.Levels.{word-open, word-closed, below-same}
 
--- The invariant: the rows that are done have the words of f, from `base` on, those of them that are not empty are in the set, and nothing
+-- The invariant: of the rows that are done, those whose word by f is not empty have it, from `base` on, and are in the set, and nothing
 -- outside the level changed.
 pub record FilledTo (done : ℕ → Bool) (f : ℕ → ℕ) (base : ℕ) (words words′ : List ℕ) (rows : ℕ) : Type 0 where
   pub kept-length : length words′ ≡ length words
-  pub filled : (r : ℕ) → r < 64 → done r ≡ true → getD words′ (base + r) 0 ≡ f r
+  pub filled : (r : ℕ) → r < 64 → done r ≡ true → eqb (f r) 0 ≡ false → getD words′ (base + r) 0 ≡ f r
   pub small : rows < 2 ^ 64
   pub gathered : (r : ℕ) → r < 64 → member rows r ≡ (done r && not (eqb (f r) 0))
   pub kept : (i : ℕ) → (i < base) ⊎ (base + 64 ≤ i) → getD words′ i 0 ≡ getD words i 0
@@ -33,7 +33,7 @@ withSet words pairs rows = set words (4096 + pairs) rows
 pub filled-none : (done : ℕ → Bool) (f : ℕ → ℕ) (base : ℕ) (words : List ℕ) → ((r : ℕ) → r < 64 → done r ≡ false) → FilledTo done f base words words 0
 filled-none done f base words none = record {
   kept-length = refl;
-  filled = λ r h e. absurd (true≢false (sym e ∙ none r h));
+  filled = λ r h e full. absurd (true≢false (sym e ∙ none r h));
   small = omega arith;
   gathered = λ r h. member-zero r ∙ rw (none r h) refl;
   kept = λ i h. refl;
@@ -47,15 +47,15 @@ module _ {done : ℕ → Bool} {f : ℕ → ℕ} {base : ℕ} {words words′ : 
       → FilledTo done′ f base words (set words′ at v) rows′
   stored {rows′} small own rest = record {
     kept-length = length-set words′ at v ∙ s .kept-length;
-    filled = λ r h e. filled-row r h e (ℕ-discrete r m);
+    filled = λ r h e full. filled-row r h e full (ℕ-discrete r m);
     small = small;
     gathered = λ r h. gathered-row r h (ℕ-discrete r m);
     kept = λ i h. getD-set-other words′ at i v 0 (λ e. ⊎-elim (λ l. omega arith) (λ l. omega arith) h) ∙ s .kept i h;
   }
     where
-      filled-row : (r : ℕ) → r < 64 → done′ r ≡ true → Dec (r ≡ m) → getD (set words′ at v) (base + r) 0 ≡ f r
-      filled-row r h e (yes q) = rw (q, ← place) (getD-set-same words′ at v 0 (omega (arith, s .kept-length)) ∙ value)
-      filled-row r h e (no n) = getD-set-other words′ at (base + r) v 0 (λ q. n (omega arith)) ∙ s .filled r h (sym (others r h n) ∙ e)
+      filled-row : (r : ℕ) → r < 64 → done′ r ≡ true → eqb (f r) 0 ≡ false → Dec (r ≡ m) → getD (set words′ at v) (base + r) 0 ≡ f r
+      filled-row r h e full (yes q) = rw (q, ← place) (getD-set-same words′ at v 0 (omega (arith, s .kept-length)) ∙ value)
+      filled-row r h e full (no n) = getD-set-other words′ at (base + r) v 0 (λ q. n (omega arith)) ∙ s .filled r h (sym (others r h n) ∙ e) full
 
       gathered-row : (r : ℕ) → r < 64 → Dec (r ≡ m) → member rows′ r ≡ (done′ r && not (eqb (f r) 0))
       gathered-row r h (yes q) = rw (q, is) own
@@ -88,7 +88,7 @@ module _ {done : ℕ → Bool} {f : ℕ → ℕ} {pairs : ℕ} {words words′ :
 
       go : (d : Bool) → done r ≡ d → (e : Bool) → eqb (f r) 0 ≡ e → levelWord (withSet words′ pairs rows) pairs r ≡ cond d (f r) 0
       go true d false e =
-          word-open (withSet words′ pairs rows) pairs r (rw level-set (s .gathered r h ∙ rw (d, e) refl)) ∙ own ∙ s .filled r h d
+          word-open (withSet words′ pairs rows) pairs r (rw level-set (s .gathered r h ∙ rw (d, e) refl)) ∙ own ∙ s .filled r h d e
       go true d true e =
           word-closed (withSet words′ pairs rows) pairs r (rw level-set (s .gathered r h ∙ rw (d, e) refl)) ∙ sym (eqb-true (f r) 0 e)
       go false d e q =
@@ -106,16 +106,8 @@ module _ {done : ℕ → Bool} {f : ℕ → ℕ} {pairs : ℕ} {words words′ :
 
   -- Lower levels are unchanged.
   pub level-below : (p : ℕ) → p < pairs → SameLevels p words (withSet words′ pairs rows)
-  unfolding levelWord
-  level-below p h = record {
-    words = length-set words′ (4096 + pairs) rows ∙ s .kept-length;
-    sets = λ q l. set-same q (omega arith);
-    word = λ q r l b. word-same q r (omega arith) b;
-  }
-    where
-      set-same : (q : ℕ) → q < pairs → openSet q (withSet words′ pairs rows) ≡ openSet q words
-      set-same q l = getD-set-other words′ (4096 + pairs) (4096 + q) rows 0 (λ e. omega arith) ∙ s .kept (4096 + q) (inr (omega arith))
-
-      word-same : (q r : ℕ) → q < pairs → r < 64 → levelWord (withSet words′ pairs rows) q r ≡ levelWord words q r
-      word-same q r l b =
-          rw (set-same q l, getD-set-other words′ (4096 + pairs) (64 * q + r) rows 0 (λ e. omega arith), s .kept (64 * q + r) (inl (omega arith))) refl
+  level-below p h =
+      below-same level (length-set words′ (4096 + pairs) rows ∙ s .kept-length)
+      (λ i l. getD-set-other words′ (4096 + pairs) i rows 0 (λ e. omega arith) ∙ s .kept i (inl l))
+      (λ i a l. getD-set-other words′ (4096 + pairs) i rows 0 (λ e. omega arith) ∙ s .kept i (inr (omega arith)))
+      p h

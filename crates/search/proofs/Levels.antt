@@ -3,11 +3,11 @@ use mathlib.Core.Path.{_≡_, refl, sym, ap, _∙_}
 use mathlib.Core.Logic.{⊎-elim}
 use mathlib.Core.Bool.{Bool, true, false, cond, not, _&&_}
 use mathlib.Core.List.{List}
-use Prim.Native.Nat.{ℕ, zero, suc, _+_, _*_, _≤_}
+use Prim.Native.Nat.{ℕ, zero, suc, _+_, _*_, _≤_, _<_}
 use native.Mathlib.Nat.{add-zero, eq-or-lt-of-le}
 use native.Mathlib.Omega.{arith}
 use lib.Dec.{ltb, eqb}
-use lib.ListN.{getD}
+use lib.ListN.{length, getD}
 use borrow.Author.Tests.{ne-eqb}
 use Rattle.bitset.specs.Members.{member, meetOf}
 use Rattle.bitset.specs.Count.{countBelow}
@@ -68,6 +68,17 @@ count-rows n (suc k) t h fails =
     (λ (e : n ≡ suc k). rw e (count-sum (suc k) t))
     (λ l. rw (fails k (omega arith), add-zero) (count-rows n k t (omega arith) fails))
     (eq-or-lt-of-le h)
+
+-- Where the words and the sets of the levels below one are unchanged, these levels are.
+pub below-same : {pairs : ℕ} {ws ws′ : List ℕ} → pairs < 64 → length ws′ ≡ length ws
+    → ((i : ℕ) → i < 64 * pairs → getD ws′ i 0 ≡ getD ws i 0) → ((i : ℕ) → 4096 ≤ i → i < 4096 + pairs → getD ws′ i 0 ≡ getD ws i 0)
+    → (p : ℕ) → p < pairs → SameLevels p ws ws′
+unfolding levelWord
+below-same level words places sets p h = record {
+  words = words;
+  sets = λ q l. sets (4096 + q) (omega arith) (omega arith);
+  word = λ q r l b. rw (sets (4096 + q) (omega arith) (omega arith), places (64 * q + r) (omega arith)) refl;
+}
 
 -- Nothing changes where nothing is stored,
 pub same-none : (pairs : ℕ) (ws : List ℕ) → SameLevels pairs ws ws

@@ -1,9 +1,10 @@
 -- The words of a node from those of its parent, and the node's upper bound: what the code adds to the workspace as it goes down a path.
-use mathlib.Core.Path.{_≡_, refl, sym, _∙_}
-use mathlib.Core.Logic.{⊎-elim}
+use mathlib.Core.Path.{_≡_, refl, sym, ap, _∙_}
+use mathlib.Core.Logic.{_⊎_, ⊎-elim, inl, inr}
 use mathlib.Core.Bool.{not, _&&_}
 use mathlib.Core.List.{List}
 use Prim.Native.Nat.{ℕ, _+_, _-_, _≤_, _<_}
+use native.Mathlib.Decide.{decLt}
 use native.Mathlib.Omega.{arith}
 use lib.Dec.{leb, ltb, eqb}
 use lib.ListN.{length, getD, take, length-take}
@@ -17,10 +18,10 @@ use Rattle.search_tree.specs.Rules.{rulesOf}
 use Rattle.search_tree.specs.Node.{upperBound, extend}
 use Rattle.search_tree.specs.Trees.{Reached}
 use Rattle.search_tree.proofs.Candidates.{candidate-value}
-use Rattle.search.specs.Words.{openSet, metWord, Refined, openRows, meetRows, Words}
-use Rattle.search.specs.Walking.{Setting, AtNode, InBounds}
+use Rattle.search.specs.Words.{openSet, metWord, Refined, openRows, meetRows, Counted, Words}
+use Rattle.search.specs.Walking.{Setting, AtNode, InBounds, Bounded}
 use Rattle.search.proofs.ReadyWalk.{decided-length}
-use Rattle.search.proofs.WordLevels.{size-extend, size-left-out, take-extend, words-shorter, words-left-out, words-refined}
+use Rattle.search.proofs.WordLevels.{size-extend, size-left-out, take-extend, words-shorter, words-left-out, words-kept, words-refined}
 use Rattle.search.proofs.WordBounds.{prefix-bound, taken-bound}
 
 -- No more rows are counted than a set can hold.
@@ -40,7 +41,7 @@ pub size-mapped : (path : List ℕ) (row : ℕ) → row < length path → (getD 
 size-mapped path row h mapped =
     rw (take-extend path row h) (omega (arith, size-extend (take row path) (getD path row 0), counted-mapped (getD path row 0) mapped))
 
-module _ {edges masks path : List ℕ} {depth pairs : ℕ} {ws : List ℕ} (bounds : InBounds edges masks path depth pairs ws) where
+module _ {edges masks later path : List ℕ} {depth pairs : ℕ} {ws : List ℕ} (bounds : InBounds edges masks later path depth pairs ws) where
   -- A node has no more pairs than rows.
   pub pairs-max : pairs ≤ depth
   pairs-max = omega (arith, bounds .pairs-are, size-take-max path depth)
@@ -126,3 +127,44 @@ module _ {P : Problem} {n : ℕ} {edges masks path ws : List ℕ} {depth pairs :
       let last : take depth path ≡ extend (take row path) (getD path row 0) = rw deeper at (take-extend path row inside) in
       let bound = taken-bound P (setting .sound) (omega arith) (node .words) (omega (arith, size-take-max path row)) (setting .masks-are) (getD path row 0) value in
       rw (← setting .edges-is) (omega (arith, node .pairs-are, rw (← before, ← last) at bound))
+
+  -- A bound that is known, beside the node's own words.
+  pub node-bounded : {ws′ : List ℕ} {cutoff bound : ℕ} → bound ≡ upperBound (rulesOf P) (take depth path) → Words P path depth ws′
+      → Bounded P path depth cutoff ws′ bound
+  node-bounded is words = record { low = λ h. omega arith; high = λ h. (is, words); words = words-shorter (omega arith) words }
+
+  -- Where the last row took a new vertex, the rows that are counted give the bound, as far as it reaches the cutoff.
+  pub node-taken-bounded : {ws′ : List ℕ} {cutoff need count : ℕ} → 0 < depth → (getD path (depth - 1) 0 ≡ unmapped → ⊥)
+      → ((pairs < cutoff) × (need ≡ cutoff - pairs)) ⊎ ((cutoff ≤ pairs) × (need ≡ 0))
+      → Counted edges masks (depth - 1) (pairs - 1) (getD path (depth - 1) 0) need ws ws′ count → Bounded P path depth cutoff ws′ (pairs + count)
+  node-taken-bounded {ws′} {cutoff} {need} {count} h mapped asked counted = record {
+    low = λ l. ⊎-elim (λ some. omega (arith, bound, counted .few (fewer l))) (λ none. absurd (omega arith)) asked;
+    high = λ l.
+        let all = counted .whole (enough l) in
+        (ap (λ (k : ℕ). pairs + k) (all .0) ∙ bound, node-taken h mapped (all .1));
+    words = words-kept P (setting .sound) (omega (arith, before)) (counted .kept) (node .words);
+  }
+    where
+      bound : pairs + meetRows edges masks (depth - 1) (pairs - 1) (getD path (depth - 1) 0) ws ≡ upperBound (rulesOf P) (take depth path)
+      bound = node-taken-bound h mapped
+
+      before : pairs ≡ size (take (depth - 1) path) + 1
+      before =
+          let deeper : depth - 1 + 1 ≡ depth = omega arith in
+          let inside : depth - 1 < length path = omega (arith, node .depth-max, node .path-length, setting .sound .old-sound .order-max) in
+          node .pairs-are ∙ (rw deeper at (size-mapped path (depth - 1) inside mapped))
+
+      fewer : pairs + count < cutoff → count < need
+      fewer l = ⊎-elim (λ some. omega arith) (λ none. omega arith) asked
+
+      enough : cutoff ≤ pairs + count → need ≤ count
+      enough l = ⊎-elim (λ some. omega arith) (λ none. omega arith) asked
+
+-- A count of rows, or a number below what is needed, is small.
+pub counted-max : {edges masks ws ws′ : List ℕ} {row pairs value need count : ℕ} → Counted edges masks row pairs value need ws ws′ count
+    → (count < need) ⊎ (count ≤ 64)
+counted-max {edges} {masks} {ws} {ws′} {row} {pairs} {value} {need} {count} counted = go (decLt count need)
+  where
+    go : Dec (count < need) → (count < need) ⊎ (count ≤ 64)
+    go (yes few) = inl few
+    go (no enough) = inr (omega (arith, counted .whole (omega arith) .0, meetRows-max edges masks row pairs value ws))

@@ -1,14 +1,12 @@
--- What is known of the code's walk between two visits: its node is as long as it is deep, and its cutoff is the state's.
-use mathlib.Core.Path.{_≡_, refl, sym}
+-- What is known of the code's walk between two visits: what it is lent belongs to the problem, and its node is as long as it is deep.
+use mathlib.Core.Path.{_≡_, refl}
 use mathlib.Core.List.{List}
 use Prim.Native.Nat.{ℕ, _≤_}
 use native.Mathlib.Omega.{arith}
 use lib.ListN.{length, take}
 use lib.Seq.{length-take-le}
 use Rattle.problem.specs.Problem.{Problem, SoundProblem}
-use Rattle.search_tree.specs.Walk.{cutoff}
-use Rattle.search.specs.declared.walk.Walk.{Walk}
-use Rattle.search.specs.Walking.{Setting, AtNode, Ready, walkIncumbent}
+use Rattle.search.specs.Walking.{Setting, AtNode}
 
 -- What the code is lent belongs to the problem, whatever the order is called.
 pub own-order : {P : Problem} {n : ℕ} {edges masks : List ℕ} → Setting P n edges masks → Setting P (P .old .order) edges masks
@@ -23,13 +21,3 @@ decided-length sound path depth long deep = length-take-le depth path (omega (ar
 pub node-length : {P : Problem} {path ws : List ℕ} {depth pairs : ℕ} → SoundProblem P → AtNode P path depth pairs ws
     → length (take depth path) ≡ depth
 node-length {P} {path} {ws} {depth} sound node = decided-length sound path depth (node .path-length) (node .depth-max)
-
-module _ {P : Problem} {minimum n : ℕ} {edges masks path incumbent ws : List ℕ} {w : Walk} (setting : Setting P n edges masks)
-    (ready : Ready P minimum w path incumbent ws) where
-  -- So is the walk's node.
-  pub ready-length : length (take (w .place .depth) path) ≡ w .place .depth
-  ready-length = node-length (setting .sound) (ready .node)
-
-  -- The walk's cutoff is the state's.
-  pub ready-cutoff : cutoff minimum (walkIncumbent n w incumbent) ≡ w .cutoff
-  ready-cutoff = rw (← setting .order-is) (sym (ready .cutoff-is))

@@ -1,9 +1,9 @@
--- A run of visits, one a turn: the code's state is the walk's after as many visits, and a finished walk stays as it is.
-use mathlib.Core.Path.{_≡_, refl, sym, ap, _∙_}
+-- A run of visits, one a turn: the code's checkpoint is the walk's after as many visits, and a finished walk stays as it is.
+use mathlib.Core.Path.{_≡_, refl, sym, ap, ap₂, _∙_}
 use mathlib.Core.Bool.{true, false}
 use mathlib.Core.List.{List}
-use Prim.Native.Nat.{ℕ, _+_, _-_, _≤_, _<_}
-use native.Mathlib.Numerals.{add-one}
+use Prim.Native.Nat.{ℕ, suc, _+_, _-_, _≤_, _<_}
+use native.Mathlib.Nat.{le-refl}
 use native.Mathlib.Decide.{le-ind}
 use native.Mathlib.Omega.{arith}
 use lib.ListN.{length}
@@ -11,10 +11,15 @@ use Rattle.problem.specs.Problem.{Problem}
 use Rattle.search_tree.specs.Search.{Search, searchOf}
 use Rattle.search_tree.specs.Walk.{State, visit}
 use Rattle.search_tree.proofs.Steps.{visit-steps, visit-finished}
+use Rattle.checkpoint.specs.declared.Checkpoint.{Checkpoint}
 use Rattle.search.specs.declared.walk.Walk.{Walk}
-use Rattle.search.specs.Walking.{Setting, Ready, walkState, Arrives, CountFits, Lent}
+use Rattle.checkpoint.specs.Checkpoints.{checkpointOf, stateOf}
+use Rattle.search.specs.Walking.{Setting, Ready, Arrives, Resumes}
 use Rattle.search.specs.Call.{visits}
-use Rattle.search.proofs.StepTurn.{Visits}
+use Rattle.checkpoint.proofs.CheckpointState.{state-of-checkpoint, checkpoint-of-state}
+use Rattle.checkpoint.proofs.StateShape.{state-in-shape}
+use Rattle.search.proofs.ShapeKept.{visits-shape}
+use Rattle.search.proofs.VisitTurn.{Visits}
 
 -- Once k visits finish the walk, more visits change nothing.
 pub visits-finished : (S : Search) (minimum : ℕ) (s : State) (k j : ℕ) → visits S minimum k s .finished ≡ true → k ≤ j
@@ -24,72 +29,99 @@ visits-finished S minimum s k j end =
     le-ind (λ j. visits S minimum j s ≡ visits S minimum k s) refl
     (λ j h same. ap (visit S minimum) same ∙ visit-finished S minimum (visits S minimum k s) end) j
 
--- The invariant: the walk made so many visits of those in the budget, whatever the problem, and is ready for another.
-pub record RanTo (budget n : ℕ) (edges masks path incumbent ws : List ℕ) (w : Walk)
-    (path′ incumbent′ ws′ : List ℕ) (w′ : Walk) (made : ℕ) : Type 0 where
-  pub within : made ≤ budget
-  pub kept-length : length ws′ ≡ length ws
-  pub counts : CountFits w′ (budget - made)
-  pub lent : Lent n edges masks w′ path′ incumbent′ ws′
-  pub arrives : (P : Problem) (minimum : ℕ) → Setting P n edges masks → Ready P minimum w path incumbent ws
-      → Arrives P minimum n (visits (searchOf P) minimum made (walkState n w path incumbent)) w′ path′ incumbent′ ws′
+-- What a walk that made so many visits holds stands for the state after them.
+pub arrived-state : {P : Problem} {n : ℕ} {edges masks ws ws′ : List ℕ} {w w′ : Walk} (k : ℕ) → Setting P n edges masks → Ready P w ws
+    → Arrives P (w .checkpoint .minimum) (visits (searchOf P) (w .checkpoint .minimum) k (stateOf (P .old .order) (w .checkpoint))) w′ ws′
+    → stateOf (P .old .order) (w′ .checkpoint) ≡ visits (searchOf P) (w .checkpoint .minimum) k (stateOf (P .old .order) (w .checkpoint))
+arrived-state {P} {w = w} k setting ready there =
+    let c = w .checkpoint in
+    ap (stateOf (P .old .order)) (there .checkpoint-is)
+    ∙ state-of-checkpoint (P .old .order) (c .minimum) _
+    (λ h e. visits-shape (searchOf P) (c .minimum) k (stateOf (P .old .order) c)
+    (state-in-shape P (setting .sound) c (ready .node .path-length) (ready .shape)) .incumbent-shape h e .full)
 
-module _ {budget n : ℕ} {edges masks path incumbent ws : List ℕ} {w : Walk} where
+-- The walk's visits keep the minimum.
+pub arrived-minimum : {P : Problem} {minimum : ℕ} {s : State} {w : Walk} {ws : List ℕ} → Arrives P minimum s w ws → w .checkpoint .minimum ≡ minimum
+unfolding checkpointOf
+arrived-minimum there = ap (λ (c : Checkpoint). c .minimum) (there .checkpoint-is)
+
+-- One visit is one step.
+pub visited-steps : {n : ℕ} {edges masks later ws ws′ : List ℕ} {w w′ : Walk} → w .checkpoint .finished ≡ false → Resumes n edges masks later w ws
+    → Visits n edges masks w ws w′ ws′ → w′ .checkpoint .steps ≡ w .checkpoint .steps + 1
+unfolding checkpointOf stateOf
+visited-steps {w = w} busy resumes visited =
+    ap (λ (c : Checkpoint). c .steps) (visited (resumes .problem) (resumes .setting) (resumes .ready) .checkpoint-is)
+    ∙ visit-steps (searchOf (resumes .problem)) (w .checkpoint .minimum) (stateOf (resumes .problem .old .order) (w .checkpoint)) busy
+
+-- The invariant: as many visits are made as steps, whatever the problem, and the walk is ready for another.
+pub record RanTo (budget n : ℕ) (edges masks later ws : List ℕ) (w : Walk) (ws′ : List ℕ) (w′ : Walk) : Type 0 where
+  pub forward : w .checkpoint .steps ≤ w′ .checkpoint .steps
+  pub within : w′ .checkpoint .steps ≤ w .checkpoint .steps + budget
+  pub kept-length : length ws′ ≡ length ws
+  pub resumes : Resumes n edges masks later w′ ws′
+  pub arrives : (P : Problem) → Setting P n edges masks → Ready P w ws
+      → Arrives P (w .checkpoint .minimum)
+      (visits (searchOf P) (w .checkpoint .minimum) (w′ .checkpoint .steps - w .checkpoint .steps) (stateOf (P .old .order) (w .checkpoint))) w′ ws′
+
+module _ {budget n : ℕ} {edges masks later ws : List ℕ} {w : Walk} where
   -- At first no visit is made.
-  pub ran-none : CountFits w budget → Lent n edges masks w path incumbent ws
-      → RanTo budget n edges masks path incumbent ws w path incumbent ws w 0
+  pub ran-none : Resumes n edges masks later w ws → RanTo budget n edges masks later ws w ws w
   unfolding visits
-  ran-none counts lent = record {
+  ran-none resumes = record {
+    forward = le-refl _;
     within = omega arith;
     kept-length = refl;
-    counts = λ busy. omega (arith, counts busy);
-    lent = lent;
-    arrives = λ P minimum setting ready. record { state-is = refl; ready = ready };
+    resumes = resumes;
+    arrives = λ P setting ready.
+        let none : w .checkpoint .steps - w .checkpoint .steps ≡ 0 = omega arith in
+        let own = checkpoint-of-state P (w .checkpoint) (setting .sound .old-sound .order-max) (ready .node .path-length) (ready .incumbent-length)
+        (ready .shape) in
+        rw none (record { checkpoint-is = sym own; ready = ready });
   }
 
-  module _ {path′ incumbent′ ws′ : List ℕ} {w′ : Walk} {made : ℕ}
-      (ran : RanTo budget n edges masks path incumbent ws w path′ incumbent′ ws′ w′ made) where
+  module _ {ws′ : List ℕ} {w′ : Walk} (ran : RanTo budget n edges masks later ws w ws′ w′) where
     -- One visit more.
-    pub ran-more : {path″ incumbent″ ws″ : List ℕ} {w″ : Walk} → made < budget → w′ .place .finished ≡ false → length ws″ ≡ length ws′
-        → Visits n edges masks w′ path′ incumbent′ ws′ w″ path″ incumbent″ ws″
-        → RanTo budget n edges masks path incumbent ws w path″ incumbent″ ws″ w″ (made + 1)
-    unfolding visits walkState
-    ran-more {w″ = w″} h busy same visited =
-        let l = ran .lent in
-        let next : w″ .steps ≡ w′ .steps + 1 =
-        ap (λ (s : State). s .steps) (visited (l .problem) (l .minimum) (l .setting) (l .ready) .state-is)
-        ∙ visit-steps (searchOf (l .problem)) (l .minimum) (walkState n w′ path′ incumbent′) busy in
+    pub ran-more : {ws″ : List ℕ} {w″ : Walk} → w′ .checkpoint .steps < w .checkpoint .steps + budget → w′ .checkpoint .finished ≡ false
+        → length ws″ ≡ length ws′ → Visits n edges masks w′ ws′ w″ ws″ → RanTo budget n edges masks later ws w ws″ w″
+    unfolding visits
+    ran-more {ws″} {w″} h busy same visited =
+        let one = visited-steps busy (ran .resumes) visited in
         record {
+          forward = omega (arith, ran .forward);
           within = omega arith;
           kept-length = same ∙ ran .kept-length;
-          counts = λ still. omega (arith, ran .counts busy);
-          lent = record {
-            problem = l .problem;
-            minimum = l .minimum;
-            setting = l .setting;
-            ready = visited (l .problem) (l .minimum) (l .setting) (l .ready) .ready;
+          resumes = record {
+            problem = ran .resumes .problem;
+            setting = ran .resumes .setting;
+            later-are = ran .resumes .later-are;
+            ready = visited (ran .resumes .problem) (ran .resumes .setting) (ran .resumes .ready) .ready;
           };
-          arrives = λ P minimum setting ready.
-              let here = ran .arrives P minimum setting ready in
-              let there = visited P minimum setting (here .ready) in
-              record { state-is = rw add-one (there .state-is ∙ ap (visit (searchOf P) minimum) (here .state-is)); ready = there .ready };
+          arrives = λ P setting ready.
+              let made : ℕ = w′ .checkpoint .steps - w .checkpoint .steps in
+              let here = ran .arrives P setting ready in
+              let there = visited P setting (here .ready) in
+              let more : w″ .checkpoint .steps - w .checkpoint .steps ≡ suc made = omega (arith, ran .forward) in
+              rw more (record {
+                checkpoint-is = there .checkpoint-is
+                    ∙ ap₂ (λ (m : ℕ) (s : State). checkpointOf m (visit (searchOf P) m s)) (arrived-minimum here) (arrived-state made setting ready here);
+                ready = there .ready;
+              });
         }
 
     -- A finished walk has made all visits of the budget.
-    pub ran-finished : w′ .place .finished ≡ true → (P : Problem) (minimum : ℕ) → Setting P n edges masks → Ready P minimum w path incumbent ws
-        → Arrives P minimum n (visits (searchOf P) minimum budget (walkState n w path incumbent)) w′ path′ incumbent′ ws′
-    unfolding walkState
-    ran-finished end P minimum setting ready =
-        let here = ran .arrives P minimum setting ready in
-        let is = here .state-is in
-        record {
-          state-is = is ∙ sym (visits-finished (searchOf P) minimum _ made budget (ap (λ (s : State). s .finished) (sym is) ∙ end) (ran .within));
-          ready = here .ready;
-        }
+    pub ran-finished : w′ .checkpoint .finished ≡ true → (P : Problem) → Setting P n edges masks → Ready P w ws
+        → Arrives P (w .checkpoint .minimum) (visits (searchOf P) (w .checkpoint .minimum) budget (stateOf (P .old .order) (w .checkpoint))) w′ ws′
+    unfolding checkpointOf
+    ran-finished end P setting ready =
+        let here = ran .arrives P setting ready in
+        let stays = visits-finished (searchOf P) (w .checkpoint .minimum) (stateOf (P .old .order) (w .checkpoint))
+        (w′ .checkpoint .steps - w .checkpoint .steps) budget (ap (λ (c : Checkpoint). c .finished) (sym (here .checkpoint-is)) ∙ end)
+        (omega (arith, ran .within, ran .forward)) in
+        record { checkpoint-is = rw stays (here .checkpoint-is); ready = here .ready }
 
     -- At the end all visits are made.
-    pub ran-all : budget ≤ made → (P : Problem) (minimum : ℕ) → Setting P n edges masks → Ready P minimum w path incumbent ws
-        → Arrives P minimum n (visits (searchOf P) minimum budget (walkState n w path incumbent)) w′ path′ incumbent′ ws′
-    ran-all h P minimum setting ready =
-        let all : made ≡ budget = omega (arith, ran .within) in
-        rw all at (ran .arrives P minimum setting ready)
+    pub ran-all : w .checkpoint .steps + budget ≤ w′ .checkpoint .steps → (P : Problem) → Setting P n edges masks → Ready P w ws
+        → Arrives P (w .checkpoint .minimum) (visits (searchOf P) (w .checkpoint .minimum) budget (stateOf (P .old .order) (w .checkpoint))) w′ ws′
+    ran-all h P setting ready =
+        let all : w′ .checkpoint .steps - w .checkpoint .steps ≡ budget = omega (arith, ran .within) in
+        rw all at (ran .arrives P setting ready)

@@ -1,29 +1,35 @@
 -- The ceiling of the state that a walk stands for, as the code takes its maximum: the cutoff, the node's own bound, and its later siblings.
-use mathlib.Core.Path.{_≡_}
+use mathlib.Core.Path.{_≡_, sym}
 use mathlib.Core.Bool.{true, false}
+use mathlib.Core.Logic.{_⊎_, ⊎-elim}
 use mathlib.Core.List.{List}
-use Prim.Native.Nat.{ℕ, _+_, max}
+use Prim.Native.Nat.{ℕ, _+_, _≤_, _<_, max}
 use native.Mathlib.Omega.{arith}
 use lib.ListN.{take}
 use Rattle.problem.specs.Problem.{Problem}
 use Rattle.search_tree.specs.Rules.{rulesOf}
-use Rattle.search_tree.specs.Node.{upperBound, openNodes}
+use Rattle.search_tree.specs.Node.{openNodes}
 use Rattle.search_tree.specs.Ceiling.{topBound, ceiling}
 use Rattle.search.specs.declared.walk.Walk.{Walk}
-use Rattle.search.specs.Walking.{Setting, Ready, walkState}
-use Rattle.search.proofs.ReadyWalk.{ready-length, ready-cutoff}
+use Rattle.checkpoint.specs.Checkpoints.{stateOf}
+use Rattle.search.specs.Walking.{Setting, Ready}
+use Rattle.search.proofs.ReadyWalk.{node-length}
 use Rattle.search.proofs.LaterTop.{laterTop}
 
-module _ {P : Problem} {minimum n : ℕ} {edges masks path incumbent ws : List ℕ} {w : Walk} (setting : Setting P n edges masks)
-    (ready : Ready P minimum w path incumbent ws) where
+module _ {P : Problem} {n : ℕ} {edges masks ws : List ℕ} {w : Walk} (setting : Setting P n edges masks) (ready : Ready P w ws) where
   -- The ceiling of a finished walk is its cutoff.
-  pub ceiling-finished : w .place .finished ≡ true → ceiling (rulesOf P) minimum (walkState n w path incumbent) ≡ w .cutoff
-  unfolding ceiling walkState
-  ceiling-finished e = rw e (ready-cutoff setting ready)
+  pub ceiling-finished : w .checkpoint .finished ≡ true
+      → ceiling (rulesOf P) (w .checkpoint .minimum) (stateOf (P .old .order) (w .checkpoint)) ≡ w .cutoff
+  unfolding ceiling stateOf
+  ceiling-finished e = rw e (sym (ready .cutoff-is))
 
-  -- The ceiling of another walk is the greatest of its cutoff, its node's bound and its later siblings' bounds.
-  pub ceiling-open : w .place .finished ≡ false → {bound : ℕ} → bound ≡ upperBound (rulesOf P) (take (w .place .depth) path)
-      → ceiling (rulesOf P) minimum (walkState n w path incumbent)
-      ≡ max (max (w .cutoff) (1 + bound)) (laterTop P (take (w .place .depth) path) (w .place .depth))
-  unfolding ceiling walkState openNodes topBound
-  ceiling-open e {bound} is = rw (e, ready-cutoff setting ready, ready-length setting ready, is) (omega arith)
+  -- The ceiling of another walk is the greatest of its cutoff, its node's bound and its later siblings' bounds; a bound below the cutoff has
+  -- no say.
+  pub ceiling-open : w .checkpoint .finished ≡ false → {top : ℕ}
+      → ((w .cutoff ≤ w .bound) × (top ≡ w .bound + 1)) ⊎ ((w .bound < w .cutoff) × (top ≡ w .cutoff))
+      → ceiling (rulesOf P) (w .checkpoint .minimum) (stateOf (P .old .order) (w .checkpoint))
+      ≡ max top (laterTop P (take (w .checkpoint .depth) (w .checkpoint .path)) (w .checkpoint .depth))
+  unfolding ceiling stateOf openNodes topBound
+  ceiling-open e {top} taken =
+      rw (e, ← ready .cutoff-is, node-length (setting .sound) (ready .node))
+      (⊎-elim (λ high. omega (arith, ready .bounded .high (high .0) .0)) (λ low. omega (arith, ready .bounded .low (low .0))) taken)

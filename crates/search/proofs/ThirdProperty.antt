@@ -18,12 +18,12 @@ use Rattle.search_tree.specs.Ceiling.{ceiling}
 use Rattle.search_tree.specs.Best.{Best}
 use Rattle.search_tree.proofs.Steps.{finished-from, unchanged-after, steps-total, total-unique}
 use Rattle.search_tree.proofs.WalkTheorems.{incumbent-common, common-below, common-best, walk-ends}
-use Rattle.search.specs.declared.checkpoint.Checkpoint.{Checkpoint}
-use Rattle.search.specs.Checkpoints.{freshCheckpoint, checkpointOf, stateOf}
+use Rattle.checkpoint.specs.declared.Checkpoint.{Checkpoint}
+use Rattle.checkpoint.specs.Checkpoints.{freshCheckpoint, checkpointOf, stateOf}
 use Rattle.search.specs.Call.{Called, wordsNeeded}
 use Rattle.search.specs.Calls.{Call, called, leaves, counted, summed, CallIn, upTo, reached, spent, resultOf}
 use Rattle.search.specs.ThirdProperty.{Judged, Unchanged, incumbentIn, ThirdProperty}
-use Rattle.search.proofs.WalkShape.{walk-state}
+use Rattle.checkpoint.proofs.StateShape.{walk-state}
 use Rattle.search.proofs.WalkCall.{walkAt, Course, few, full, done, walk-course}
 use Rattle.search.proofs.CallLists.{summed-snoc}
 

@@ -3,8 +3,8 @@ use mathlib.Core.Path.{_≡_, refl, ap, _∙_}
 use mathlib.Core.Logic.{_⊎_, inl, inr}
 use mathlib.Core.Bool.{Bool, true, false, cond, _||_}
 use mathlib.Core.List.{List}
-use Prim.Native.Nat.{ℕ, _+_, _^_, _≤_, _<_}
-use native.Mathlib.Nat.{zero-add}
+use Prim.Native.Nat.{ℕ, zero, suc, _+_, _^_, _≤_, _<_}
+use native.Mathlib.Nat.{zero-add, add-zero, add-suc}
 use native.Mathlib.Omega.{arith}
 use lib.Dec.{leb, ltb}
 use lib.ListN.{length}
@@ -12,14 +12,20 @@ use borrow.Author.Tests.{leb-true, leb-false, ltb-true, ltb-false}
 use Rattle.answers.specs.Answer.{Answer, passed}
 use Rattle.problem.specs.Problem.{Problem, SoundProblem}
 use Rattle.search_tree.specs.Rules.{rulesOf}
-use Rattle.search_tree.specs.Search.{searchOf}
+use Rattle.search_tree.specs.Search.{Search, searchOf}
 use Rattle.search_tree.specs.Walk.{after}
-use Rattle.search.specs.declared.checkpoint.Checkpoint.{Checkpoint}
-use Rattle.search.specs.Checkpoints.{checkpointOf, freshCheckpoint}
+use Rattle.checkpoint.specs.declared.Checkpoint.{Checkpoint}
+use Rattle.checkpoint.specs.Checkpoints.{checkpointOf, freshCheckpoint}
 use Rattle.search.specs.Call.{Called, visits, wordsNeeded, refuse, arrive, advance, onPassed, searchCall}
-use Rattle.search.proofs.CheckpointPasses.{shape-passes}
-use Rattle.search.proofs.ShapeTest.{shape-test}
-use Rattle.search.proofs.WalkShape.{visits-after, walk-in-shape, walk-state}
+use Rattle.checkpoint.proofs.CheckpointPasses.{shape-passes}
+use Rattle.checkpoint.proofs.ShapeTest.{shape-test}
+use Rattle.checkpoint.proofs.StateShape.{walk-in-shape, walk-state}
+
+-- b visits from the state after k visits lead to the state after k + b visits
+visits-after : (S : Search) (minimum b k : ℕ) → visits S minimum b (after S minimum k) ≡ after S minimum (k + b)
+unfolding visits after
+visits-after S minimum zero k = rw add-zero
+visits-after S minimum (suc b) k = rw (add-suc k b, visits-after S minimum b k)
 
 -- the walk's checkpoint after k visits
 abbrev pub walkAt : Problem → ℕ → ℕ → Checkpoint

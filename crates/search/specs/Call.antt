@@ -10,9 +10,9 @@ use Rattle.search_tree.specs.Rules.{Rules, rulesOf}
 use Rattle.search_tree.specs.Search.{Search, searchOf}
 use Rattle.search_tree.specs.Walk.{State, visit}
 use Rattle.search_tree.specs.Ceiling.{ceiling}
-use Rattle.search.specs.declared.checkpoint.Checkpoint.{Checkpoint}
-use Rattle.search.specs.Checkpoints.{checkpointOf, stateOf}
-use Rattle.search.specs.Checking.{checkpointAnswer}
+use Rattle.checkpoint.specs.declared.Checkpoint.{Checkpoint}
+use Rattle.checkpoint.specs.Checkpoints.{checkpointOf, stateOf}
+use Rattle.checkpoint.specs.Checking.{checkpointAnswer}
 
 -- the answer, the checkpoint and the workspace after a call
 pub record Called : Type 0 where

@@ -1,5 +1,3 @@
-pub mod Checkpoints
-pub mod Checking
 pub mod Call
 pub mod Calls
 pub mod ThirdProperty

@@ -16,8 +16,8 @@ use Rattle.search_tree.specs.Search.{searchOf}
 use Rattle.search_tree.specs.Walk.{State, after}
 use Rattle.search_tree.specs.Ceiling.{ceiling}
 use Rattle.search_tree.specs.Best.{Best}
-use Rattle.search.specs.declared.checkpoint.Checkpoint.{Checkpoint}
-use Rattle.search.specs.Checkpoints.{checkpointOf}
+use Rattle.checkpoint.specs.declared.Checkpoint.{Checkpoint}
+use Rattle.checkpoint.specs.Checkpoints.{checkpointOf}
 use Rattle.search.specs.Call.{wordsNeeded}
 use Rattle.search.specs.Calls.{Call, CallIn, upTo, reached, spent, resultOf}
 

@@ -1,6 +1,6 @@
 -- What the workspace and the masks hold while the search walks: candidate sets as 64-bit words (01, "The walk", "Each set is one 64-bit word").
 use mathlib.Core.Path.{_≡_}
-use mathlib.Core.Bool.{true, cond, not, _&&_}
+use mathlib.Core.Bool.{true, false, cond, not, _&&_, _||_}
 use mathlib.Core.Logic.{_⊎_, _≢_}
 use mathlib.Core.List.{List}
 use Prim.Native.Nat.{ℕ, _+_, _*_, _≤_, _<_}
@@ -13,6 +13,7 @@ use Rattle.problem.specs.Problem.{Problem, allowed}
 use Rattle.mapping.specs.Common.{size}
 use Rattle.search_tree.specs.Rules.{rulesOf}
 use Rattle.search_tree.specs.Node.{candidate}
+use Rattle.search.specs.declared.words.Kept.{Kept}
 
 -- the candidate set of row r at a node
 abbrev pub wordOf : Problem → List ℕ → ℕ → ℕ
@@ -78,6 +79,45 @@ openRows depth pairs workspace = countBelow 64 (λ r. leb depth r && member (ope
 abbrev pub meetRows : List ℕ → List ℕ → ℕ → ℕ → ℕ → List ℕ → ℕ
 meetRows edges masks row pairs value workspace =
     countBelow 64 (λ r. ltb row r && not (eqb (metWord edges masks row pairs value workspace r) 0))
+
+-- the rows after `row` are counted that have a candidate once it took `value`, and the next level holds their words; or, once fewer than
+-- `need` rows can have one, the count is some number below `need`
+pub record Counted (edges masks : List ℕ) (row pairs value need : ℕ) (workspace workspace′ : List ℕ) (count : ℕ) : Type 0 where
+  pub kept : SameLevels pairs workspace workspace′
+  pub few : count < need → meetRows edges masks row pairs value workspace < need
+  pub whole : need ≤ count → (count ≡ meetRows edges masks row pairs value workspace) × Refined edges masks row pairs value workspace workspace′
+
+-- the rows after `row` that have an edge to it
+abbrev pub laterNeighbours : List ℕ → ℕ → ℕ
+laterNeighbours edges row = setOf 64 (λ r. ltb row r && not (eqb (getD edges (place row r) 0) 0))
+
+-- one word for each row: its later neighbours
+abbrev pub Later : List ℕ → List ℕ → Type 0
+Later edges later = (row : ℕ) → row < 64 → getD later row 0 ≡ laterNeighbours edges row
+
+-- how many rows of a set have no candidate, by their new words
+abbrev pub lostRows : ℕ → (ℕ → ℕ) → ℕ
+lostRows set word = countBelow 64 (λ r. member set r && eqb (word r) 0)
+
+-- the rows of a set are given their new words in a level, and those that are not empty join the rows kept; or so many are empty that the
+-- count falls below `need`
+pub record Met (set : ℕ) (word : ℕ → ℕ) (level need : ℕ) (workspace : List ℕ) (kept : Kept) (workspace′ : List ℕ) (r : Kept) : Type 0 where
+  pub words : length workspace′ ≡ length workspace
+  -- nothing but the places of these rows changes
+  pub others : (i : ℕ) → ((m : ℕ) → m < 64 → member set m ≡ true → i ≢ 64 * level + m) → getD workspace′ i 0 ≡ getD workspace i 0
+  pub few : r .count < need → kept .count < need + lostRows set word
+  pub count-is : need ≤ r .count → r .count + lostRows set word ≡ kept .count
+  pub rows-are : need ≤ r .count → (m : ℕ) → m < 64 → member (r .rows) m ≡ (member (kept .rows) m || (member set m && not (eqb (word m) 0)))
+  pub filled : need ≤ r .count → (m : ℕ) → m < 64 → member set m ≡ true → eqb (word m) 0 ≡ false → getD workspace′ (64 * level + m) 0 ≡ word m
+
+-- the new word of a row whose edge to `row` has a mask of its own
+abbrev pub nearWord : List ℕ → List ℕ → ℕ → ℕ → ℕ → List ℕ → ℕ → ℕ
+nearWord edges masks row pairs value workspace r =
+    meetOf (getD workspace (64 * pairs + r) 0) (getD masks (256 * value + getD edges (place row r) 0) 0)
+
+-- the new word of a row by the one mask of null edges
+abbrev pub farWord : ℕ → ℕ → List ℕ → ℕ → ℕ
+farWord mask pairs workspace r = meetOf (getD workspace (64 * pairs + r) 0) mask
 
 -- the words of each of the path's first k entries, k up to depth, stand at its number of pairs: a left-out row changes no word
 pub record Words (P : Problem) (path : List ℕ) (depth : ℕ) (workspace : List ℕ) : Type 0 where

@@ -1,45 +1,59 @@
 // The ceiling: one more than the greatest upper bound of an open node, where that is above the cutoff.
 
-use super::walk;
 use super::walk::Walk;
 use super::words;
 use bitset::Least;
 use graph::MAX_ORDER;
+use mapping::NewVertex;
+use mapping::OldVertex;
 use mapping::UNMAPPED;
 ghost use mathlib.Core.Path.{_≡_};
 ghost use mathlib.Core.List.{List};
-ghost use Prim.Native.Nat.{ℕ, _≤_, _<_, max};
+ghost use Prim.Native.Nat.{ℕ, _-_, _^_, _≤_, _<_, max};
 ghost use lib.ListN.{length, take};
 ghost use Rattle.problem.specs.Problem.{Problem};
 ghost use Rattle.search_tree.specs.Rules.{rulesOf};
 ghost use Rattle.search_tree.specs.Node.{laterSiblings};
 ghost use Rattle.search_tree.specs.Ceiling.{topBound, ceiling as ceilingOf};
-ghost use Rattle.search.specs.Walking.{Setting, AtNode, AtRow, InBounds, Ready, walkState, levelTop};
-ghost use Rattle.search.specs.Words.{SameLevels};
+ghost use Rattle.checkpoint.specs.Checkpoints.{stateOf};
+ghost use Rattle.search.specs.Walking.{Setting, AtNode, AtRow, InBounds, Ready, levelTop};
+ghost use Rattle.search.specs.Words.{SameLevels, laterNeighbours};
 
 // One more than the greatest upper bound among the later siblings at `row`, which has taken `value` after `pairs` pairs. Their words are made in
 // the level after theirs, which is needed no more.
 pub fn row_top(
     edges: &[u8],
     masks: &[u64],
+    neighbours: u64,
     workspace: &mut [u64],
-    row: usize,
+    row: OldVertex,
     pairs: usize,
-    value: usize,
+    value: NewVertex,
 ) -> usize
     requires { ⌜ (length (now edges) ≡ 4096) × (length (now masks) ≡ 16384) × (4160 ≤ length (now workspace)) ⌝ }
-    requires { ⌜ (row < 64) × (pairs ≤ row) × (value < 64) ⌝ }
+    requires { ⌜ (row .0 < 64) × (pairs ≤ row .0) × (value .0 < 64) × (neighbours ≡ laterNeighbours (now edges) (row .0)) ⌝ }
     ensures kept { λ _. ⌜ SameLevels pairs (now (workspace .entry)) (now (workspace .exit)) ⌝ }
     ensures top { λ r. ⌜ ((P : Problem) (path : List ℕ) → Setting P (P .old .order) (now (edges .entry)) (now (masks .entry))
-        → AtRow P path row pairs (now (workspace .entry)) → r ≡ levelTop (rulesOf P) (take row path) value) ⌝ }
+        → AtRow P path (row .0) pairs (now (workspace .entry)) → r ≡ levelTop (rulesOf P) (take (row .0) path) (value .0)) ⌝ }
 {
     let word = words::level_word(workspace, pairs, row);
-    let mut top = pairs + 1 + words::count_open(workspace, row + 1, pairs);
-    let mut last = value;
+    let mut top = pairs + 1 + words::count_open(workspace, row.0 + 1, pairs);
+    let mut last = value.0;
     loop {
         match bitset::least_above(word, last) {
             Least::Member(v) => {
-                let above = pairs + 2 + words::refine(edges, masks, workspace, row, pairs, v);
+                let above = pairs
+                    + 2
+                    + words::refine(
+                        edges,
+                        masks,
+                        neighbours,
+                        workspace,
+                        row,
+                        pairs,
+                        NewVertex(v),
+                        0,
+                    );
                 if top < above {
                     top = above;
                 }
@@ -57,13 +71,14 @@ pub fn row_top(
 pub fn later_top(
     edges: &[u8],
     masks: &[u64],
+    later: &[u64; MAX_ORDER],
     path: &[u8; MAX_ORDER],
     workspace: &mut [u64],
     depth: usize,
     pairs: usize,
     least: usize,
 ) -> usize
-    requires { ⌜ InBounds (now edges) (now masks) (now path) depth pairs (now workspace) ⌝ }
+    requires { ⌜ InBounds (now edges) (now masks) (now later) (now path) depth pairs (now workspace) ⌝ }
     ensures { λ r. ⌜ ((P : Problem) → Setting P (P .old .order) (now (edges .entry)) (now (masks .entry))
         → AtNode P (now (path .entry)) depth pairs (now (workspace .entry))
         → r ≡ max least (topBound (rulesOf P) (laterSiblings (rulesOf P) (take depth (now (path .entry))) depth))) ⌝ }
@@ -78,7 +93,15 @@ pub fn later_top(
             left -= 1;
             let limit = left + 1 + words::count_open(workspace, row, left);
             if top < limit {
-                let above = row_top(edges, masks, workspace, row, left, last as usize);
+                let above = row_top(
+                    edges,
+                    masks,
+                    later[row],
+                    workspace,
+                    OldVertex(row),
+                    left,
+                    NewVertex(last as usize),
+                );
                 if top < above {
                     top = above;
                 }
@@ -94,25 +117,32 @@ pub fn ceiling(
     walk: Walk,
     edges: &[u8],
     masks: &[u64],
-    path: &[u8; MAX_ORDER],
+    later: &[u64; MAX_ORDER],
     workspace: &mut [u64],
 ) -> usize
-    requires { ⌜ InBounds (now edges) (now masks) (now path) (walk .place .depth) (walk .place .pairs) (now workspace) ⌝ }
-    ensures { λ r. ⌜ ((P : Problem) (minimum : ℕ) (incumbent : List ℕ) → Setting P (P .old .order) (now (edges .entry)) (now (masks .entry))
-        → Ready P minimum walk (now (path .entry)) incumbent (now (workspace .entry))
-        → r ≡ ceilingOf (rulesOf P) minimum (walkState (P .old .order) walk (now (path .entry)) incumbent)) ⌝ }
+    requires { ⌜ InBounds (now edges) (now masks) (now later) (walk .checkpoint .path) (walk .checkpoint .depth) (walk .pairs) (now workspace) ⌝ }
+    requires { ⌜ walk .bound < 2 ^ 64 - 1 ⌝ }
+    ensures { λ r. ⌜ ((P : Problem) → Setting P (P .old .order) (now (edges .entry)) (now (masks .entry)) → Ready P walk (now (workspace .entry))
+        → r ≡ ceilingOf (rulesOf P) (walk .checkpoint .minimum) (stateOf (P .old .order) (walk .checkpoint))) ⌝ }
 {
-    let cutoff = walk.cutoff;
-    let finished = walk.place.finished;
+    let mut top = walk.cutoff;
+    let finished = walk.checkpoint.finished;
     if finished {
-        return cutoff;
+        return top;
     }
-    let depth = walk.place.depth;
-    let pairs = walk.place.pairs;
-    let own = 1 + walk::upper_bound(edges, masks, path, workspace, depth, pairs);
-    let mut top = cutoff;
-    if top < own {
-        top = own;
+    let depth = walk.checkpoint.depth;
+    let path = walk.checkpoint.path;
+    if top <= walk.bound {
+        top = walk.bound + 1;
     }
-    later_top(edges, masks, path, workspace, depth, pairs, top)
+    later_top(
+        edges,
+        masks,
+        later,
+        &path,
+        workspace,
+        depth,
+        walk.pairs,
+        top,
+    )
 }

@@ -1,16 +1,14 @@
 // The search for the largest common subgraph of two graphs: resumable calls on a checkpoint.
 
 mod ceiling;
-mod checkpoint;
-mod shape;
 mod walk;
 mod words;
 
-pub use checkpoint::Checkpoint;
+use checkpoint::Checkpoint;
+use checkpoint::ShapeAnswer;
 use problem::Edges;
 use problem::Labels;
 use problem::Orders;
-use problem::ProblemAnswer;
 use problem::ProblemFlaw;
 ghost use mathlib.Core.Path.{_≡_};
 ghost use lib.Dec.{T};
@@ -18,10 +16,9 @@ ghost use lib.ListN.{length};
 ghost use Rattle.answers.specs.Answer.{refusalNumber};
 ghost use Rattle.problem.specs.Problem.{SoundProblem};
 ghost use Rattle.problem.specs.Lent.{lent};
-ghost use Rattle.search.specs.Checkpoints.{InShape};
+ghost use Rattle.checkpoint.specs.Checkpoints.{InShape};
 ghost use Rattle.search.specs.Call.{advance as advanced, countFits, searchCall};
-ghost use Rattle.search.specs.Checking.{checkpointAnswer};
-ghost use Rattle.search.specs.Answers.{calledOf, searchAnswer, shapeAnswer};
+ghost use Rattle.search.specs.Answers.{calledOf, searchAnswer};
 
 // How many words of 64 bits a call needs.
 pub const WORDS: usize = 4160;
@@ -48,37 +45,21 @@ pub fn search_number(answer: SearchAnswer) -> u8
     }
 }
 
-// The answer of `check_checkpoint`.
-pub enum ShapeAnswer {
-    InShape,
-    Flawed(ProblemFlaw),
-    OutOfShape,
-}
-
 // The answer, and the checkpoint after the call.
 pub struct Searched {
     pub answer: SearchAnswer,
     pub checkpoint: Checkpoint,
 }
 
-// Whether the checkpoint is in shape for the two graphs.
-pub fn check_checkpoint<'a>(
-    orders: Orders,
-    labels: Labels<'a>,
-    edges: Edges<'a>,
-    checkpoint: Checkpoint,
-) -> ShapeAnswer
-    ensures { λ r. ⌜ shapeAnswer r ≡ checkpointAnswer (lent orders (labels .entry) (edges .entry)) checkpoint ⌝ }
+// Whether the steps after the call would still count in 64 bits; a finished search makes none.
+fn count_fits(checkpoint: Checkpoint, budget: u64) -> bool
+    ensures { λ r. ⌜ r ≡ countFits checkpoint budget ⌝ }
 {
-    match problem::check_problem(orders, labels, edges) {
-        ProblemAnswer::Flawed(flaw) => ShapeAnswer::Flawed(flaw),
-        ProblemAnswer::Sound => {
-            if !shape::in_shape(orders, labels, edges, checkpoint) {
-                return ShapeAnswer::OutOfShape;
-            }
-            ShapeAnswer::InShape
-        }
+    let finished = checkpoint.finished;
+    if finished {
+        return true;
     }
+    budget <= 0xffff_ffff_ffff_ffff - checkpoint.steps
 }
 
 // The visits of an accepted call, from the words of the root on, and the ceiling there.
@@ -101,22 +82,23 @@ fn advance<'a>(
     let mut masks = [0u64; words::MASKS];
     words::fill_masks(orders[1], edges[1], &mut masks);
     words::root_words(orders, labels, workspace);
-    let depth = checkpoint.depth;
-    let path = checkpoint.path;
-    walk::rebuild(old_edges, &masks, &path, workspace, depth);
-    let end = checkpoint::visits(checkpoint, budget, old_order, old_edges, &masks, workspace);
-    let end_path = end.path;
-    let top = ceiling::ceiling(
-        checkpoint::start(end, old_order),
+    let later = words::all_later(old_edges);
+    let start = walk::start(checkpoint, old_order, old_edges, &masks, &later, workspace);
+    let end = walk::run(
+        start,
+        budget,
+        old_order,
         old_edges,
         &masks,
-        &end_path,
+        &later,
         workspace,
     );
+    let top = ceiling::ceiling(end, old_edges, &masks, &later, workspace);
     words::clear_words(workspace);
+    let left = end.checkpoint;
     Searched {
         answer: SearchAnswer::Ceiling(top),
-        checkpoint: end,
+        checkpoint: left,
     }
 }
 
@@ -132,7 +114,7 @@ pub fn search<'a>(
     ensures { λ r. ⌜ calledOf r (now (workspace .exit))
         ≡ searchCall (lent orders (labels .entry) (edges .entry)) checkpoint budget (now (workspace .entry)) ⌝ }
 {
-    match check_checkpoint(orders, labels, edges, checkpoint) {
+    match checkpoint::check_checkpoint(orders, labels, edges, checkpoint) {
         ShapeAnswer::Flawed(flaw) => Searched {
             answer: SearchAnswer::Flawed(flaw),
             checkpoint,
@@ -148,7 +130,7 @@ pub fn search<'a>(
                     checkpoint,
                 };
             }
-            if !checkpoint::count_fits(checkpoint, budget) {
+            if !count_fits(checkpoint, budget) {
                 return Searched {
                     answer: SearchAnswer::ManySteps,
                     checkpoint,

@@ -1,24 +1,27 @@
-// One visit of the walk, and a run of visits: the path moves in place, over a workspace that holds its ancestors' candidate words.
+// One visit of the walk, by value, and a run of visits, over a workspace that holds the candidate words of the path's ancestors.
 
 use super::words;
 use bitset::Least;
+use checkpoint::Checkpoint;
 use graph::MAX_ORDER;
+use mapping::NewVertex;
+use mapping::OldVertex;
 use mapping::UNMAPPED;
 ghost use mathlib.Core.Path.{_≡_};
 ghost use mathlib.Core.Bool.{false};
 ghost use mathlib.Core.Logic.{_⊎_};
-ghost use mathlib.Core.List.{_++_};
 ghost use Prim.Native.Nat.{ℕ, _+_, _-_, _≤_, _<_, _^_};
-ghost use lib.ListN.{length, getD, take, drop};
+ghost use lib.ListN.{length, getD, take};
 ghost use Rattle.problem.specs.Problem.{Problem, SoundProblem};
 ghost use Rattle.mapping.specs.Common.{unmapped, size};
 ghost use Rattle.search_tree.specs.Rules.{rulesOf};
 ghost use Rattle.search_tree.specs.Search.{searchOf};
-ghost use Rattle.search_tree.specs.Walk.{visit};
-ghost use Rattle.search.specs.Words.{Words};
-ghost use Rattle.search.specs.Walking.{Setting, AtNode, InBounds, Ready, walkState, Arrives, Bounded, Descends, Retreats, CountFits, Lent};
-ghost use Rattle.search.specs.Call.{visits};
 ghost use Rattle.search_tree.specs.Trees.{Reached};
+ghost use Rattle.search_tree.specs.Walk.{visit};
+ghost use Rattle.checkpoint.specs.Checkpoints.{stateOf, InShape};
+ghost use Rattle.search.specs.Words.{Later, Words};
+ghost use Rattle.search.specs.Walking.{Setting, AtNode, InBounds, Ready, Arrives, Bounded, Descends, Retreats, CountFits, Resumes, Starts};
+ghost use Rattle.search.specs.Call.{visits};
 
 // Where the walk stands: the next node's depth and number of pairs, or finished at depth 0.
 pub struct Place {
@@ -27,27 +30,30 @@ pub struct Place {
     pub finished: bool,
 }
 
-// A walk's numbers; its path and incumbent stand beside it. `cutoff` is what a node must reach.
+// A checkpoint, with the numbers that follow from it: the pairs on its path, the cutoff, which a node must reach, and its node's upper bound, or,
+// where that is below the cutoff, some number below it. The bound is made on arrival, so that a visit first moves and then counts.
 pub struct Walk {
-    pub steps: u64,
-    pub place: Place,
+    pub checkpoint: Checkpoint,
+    pub pairs: usize,
     pub cutoff: usize,
-    pub holds: bool,
+    pub bound: usize,
 }
 
-// The upper bound of the node, and its own words in the workspace.
+// The upper bound of the node, and its own words in the workspace; or, where the bound is below the cutoff, some number below it.
 pub fn upper_bound(
     edges: &[u8],
     masks: &[u64],
+    later: &[u64; MAX_ORDER],
     path: &[u8; MAX_ORDER],
     workspace: &mut [u64],
     depth: usize,
     pairs: usize,
+    cutoff: usize,
 ) -> usize
-    requires { ⌜ InBounds (now edges) (now masks) (now path) depth pairs (now workspace) ⌝ }
+    requires { ⌜ InBounds (now edges) (now masks) (now later) (now path) depth pairs (now workspace) ⌝ }
     ensures bounded { λ r. ⌜ ((P : Problem) → Setting P (P .old .order) (now (edges .entry)) (now (masks .entry))
-        → AtNode P (now (path .entry)) depth pairs (now (workspace .entry)) → Bounded P (now (path .entry)) depth (now (workspace .exit)) r) ⌝ }
-    ensures small { λ r. ⌜ r ≤ 128 ⌝ }
+        → AtNode P (now (path .entry)) depth pairs (now (workspace .entry)) → Bounded P (now (path .entry)) depth cutoff (now (workspace .exit)) r) ⌝ }
+    ensures small { λ r. ⌜ r < 2 ^ 64 - 1 ⌝ }
 {
     if depth == 0 {
         return pairs + words::count_open(workspace, depth, pairs);
@@ -57,23 +63,31 @@ pub fn upper_bound(
     if last == UNMAPPED {
         return pairs + words::count_open(workspace, depth, pairs);
     }
-    pairs + words::refine(edges, masks, workspace, row, pairs - 1, last as usize)
+    let mut need = 0;
+    if pairs < cutoff {
+        need = cutoff - pairs;
+    }
+    pairs
+        + words::refine(
+            edges,
+            masks,
+            later[row],
+            workspace,
+            OldVertex(row),
+            pairs - 1,
+            NewVertex(last as usize),
+            need,
+        )
 }
 
 // The first child: the row at `depth` takes its least candidate, or is left out.
-pub fn descend(
-    order: usize,
-    path: &mut [u8; MAX_ORDER],
-    workspace: &[u64],
-    depth: usize,
-    pairs: usize,
-) -> Place
-    requires { ⌜ (order ≤ 64) × (length (now path) ≡ 64) × (4160 ≤ length (now workspace)) × (depth < order) × (pairs ≤ depth) ⌝ }
-    ensures { λ r. ⌜ ((P : Problem) → SoundProblem P → P .old .order ≡ order
+pub fn descend(path: &mut [u8; MAX_ORDER], workspace: &[u64], depth: usize, pairs: usize) -> Place
+    requires { ⌜ (length (now path) ≡ 64) × (4160 ≤ length (now workspace)) × (depth < 64) × (pairs ≤ depth) ⌝ }
+    ensures { λ r. ⌜ ((P : Problem) → SoundProblem P → depth < P .old .order
         → AtNode P (now (path .entry)) depth pairs (now (workspace .entry)) → Words P (now (path .entry)) depth (now (workspace .entry))
         → Descends P (now (path .entry)) depth (now (workspace .entry)) r (now (path .exit))) ⌝ }
 {
-    match bitset::least_member(words::level_word(workspace, pairs, depth)) {
+    match bitset::least_member(words::level_word(workspace, pairs, OldVertex(depth))) {
         Least::Member(v) => {
             path[depth] = (v % 256) as u8;
             Place {
@@ -94,18 +108,11 @@ pub fn descend(
 }
 
 // The nearest later sibling of the node or of an ancestor: rows left out, which are no pairs, are passed, and the last pair takes its next
-// candidate, or is left out.
-pub fn retreat(
-    order: usize,
-    path: &mut [u8; MAX_ORDER],
-    workspace: &[u64],
-    depth: usize,
-    pairs: usize,
-) -> Place
-    requires { ⌜ (order ≤ 64) × (length (now path) ≡ 64) × (4160 ≤ length (now workspace)) × (depth ≤ order) × (pairs ≡ size (take depth (now path))) ⌝ }
+// candidate, or is left out. The entries passed become 0.
+pub fn retreat(path: &mut [u8; MAX_ORDER], workspace: &[u64], depth: usize, pairs: usize) -> Place
+    requires { ⌜ (length (now path) ≡ 64) × (4160 ≤ length (now workspace)) × (depth ≤ 64) × (pairs ≡ size (take depth (now path))) ⌝ }
     requires { ⌜ ((k : ℕ) → k < depth → (getD (now path) k 0 ≡ unmapped) ⊎ (getD (now path) k 0 < 64)) ⌝ }
-    ensures { λ r. ⌜ ((P : Problem) → SoundProblem P → P .old .order ≡ order
-        → AtNode P (now (path .entry)) depth pairs (now (workspace .entry))
+    ensures { λ r. ⌜ ((P : Problem) → SoundProblem P → AtNode P (now (path .entry)) depth pairs (now (workspace .entry))
         → Retreats P (now (path .entry)) depth (now (workspace .entry)) r (now (path .exit))) ⌝ }
 {
     let mut k = depth;
@@ -114,7 +121,10 @@ pub fn retreat(
         let last = path[row];
         if last != UNMAPPED {
             let before = pairs - 1;
-            match bitset::least_above(words::level_word(workspace, before, row), last as usize) {
+            match bitset::least_above(
+                words::level_word(workspace, before, OldVertex(row)),
+                last as usize,
+            ) {
                 Least::Member(v) => {
                     path[row] = (v % 256) as u8;
                     return Place {
@@ -133,6 +143,7 @@ pub fn retreat(
                 }
             }
         }
+        path[row] = 0;
         k = row;
     }
     Place {
@@ -142,106 +153,189 @@ pub fn retreat(
     }
 }
 
-// The path becomes the incumbent.
-pub fn hold(order: usize, path: &[u8; MAX_ORDER], incumbent: &mut [u8; MAX_ORDER])
-    requires { ⌜ (order ≤ 64) × (length (now path) ≡ 64) × (length (now incumbent) ≡ 64) ⌝ }
-    ensures { λ _. ⌜ now (incumbent .exit) ≡ take order (now (path .entry)) ++ drop order (now (incumbent .entry)) ⌝ }
-{
-    let mut i = 0;
-    while i < order {
-        incumbent[i] = path[i];
-        i += 1;
+impl Walk {
+    // One visit turns a checkpoint into the next, and leaves the words of the next node's ancestors.
+    pub fn visit(
+        self,
+        order: usize,
+        edges: &[u8],
+        masks: &[u64],
+        later: &[u64; MAX_ORDER],
+        workspace: &mut [u64],
+    ) -> Walk
+        requires { ⌜ Resumes order (now edges) (now masks) (now later) self (now workspace) ⌝ }
+        requires { ⌜ (self .checkpoint .finished ≡ false) × (self .checkpoint .steps + 1 < 2 ^ 64) ⌝ }
+        ensures { λ r. ⌜ ((P : Problem) → Setting P order (now (edges .entry)) (now (masks .entry)) → Ready P self (now (workspace .entry))
+            → Arrives P (self .checkpoint .minimum)
+            (visit (searchOf P) (self .checkpoint .minimum) (stateOf (P .old .order) (self .checkpoint))) r (now (workspace .exit))) ⌝ }
+    {
+        let minimum = self.checkpoint.minimum;
+        let steps = self.checkpoint.steps + 1;
+        let depth = self.checkpoint.depth;
+        let holds = self.checkpoint.holds;
+        let incumbent = self.checkpoint.incumbent;
+        let pairs = self.pairs;
+        let cutoff = self.cutoff;
+        let mut path = self.checkpoint.path;
+        if self.bound < cutoff {
+            let place = retreat(&mut path, workspace, depth, pairs);
+            let bound = upper_bound(
+                edges,
+                masks,
+                later,
+                &path,
+                workspace,
+                place.depth,
+                place.pairs,
+                cutoff,
+            );
+            return Walk {
+                checkpoint: Checkpoint {
+                    minimum,
+                    steps,
+                    depth: place.depth,
+                    path,
+                    finished: place.finished,
+                    holds,
+                    incumbent,
+                },
+                pairs: place.pairs,
+                cutoff,
+                bound,
+            };
+        }
+        if depth == order {
+            let held = path;
+            let size = pairs + 1;
+            let place = retreat(&mut path, workspace, depth, pairs);
+            let bound = upper_bound(
+                edges,
+                masks,
+                later,
+                &path,
+                workspace,
+                place.depth,
+                place.pairs,
+                size,
+            );
+            return Walk {
+                checkpoint: Checkpoint {
+                    minimum,
+                    steps,
+                    depth: place.depth,
+                    path,
+                    finished: place.finished,
+                    holds: true,
+                    incumbent: held,
+                },
+                pairs: place.pairs,
+                cutoff: size,
+                bound,
+            };
+        }
+        let place = descend(&mut path, workspace, depth, pairs);
+        let bound = upper_bound(
+            edges,
+            masks,
+            later,
+            &path,
+            workspace,
+            place.depth,
+            place.pairs,
+            cutoff,
+        );
+        Walk {
+            checkpoint: Checkpoint {
+                minimum,
+                steps,
+                depth: place.depth,
+                path,
+                finished: place.finished,
+                holds,
+                incumbent,
+            },
+            pairs: place.pairs,
+            cutoff,
+            bound,
+        }
     }
 }
 
-// One visit.
-pub fn step(
-    walk: Walk,
+// A walk at a checkpoint, from the words of the root: those of its path's ancestors are rebuilt, and its pairs, cutoff and bound are counted.
+pub fn start(
+    checkpoint: Checkpoint,
     order: usize,
     edges: &[u8],
     masks: &[u64],
-    path: &mut [u8; MAX_ORDER],
-    incumbent: &mut [u8; MAX_ORDER],
+    later: &[u64; MAX_ORDER],
     workspace: &mut [u64],
 ) -> Walk
-    requires { ⌜ InBounds (now edges) (now masks) (now path) (walk .place .depth) (walk .place .pairs) (now workspace) ⌝ }
-    requires { ⌜ (length (now incumbent) ≡ 64) × (walk .place .depth ≤ order) × (order ≤ 64) ⌝ }
-    requires { ⌜ (walk .place .finished ≡ false) × (walk .steps + 1 < 2 ^ 64) ⌝ }
-    ensures { λ r. ⌜ ((P : Problem) (minimum : ℕ) → Setting P order (now (edges .entry)) (now (masks .entry))
-        → Ready P minimum walk (now (path .entry)) (now (incumbent .entry)) (now (workspace .entry))
-        → Arrives P minimum order (visit (searchOf P) minimum (walkState order walk (now (path .entry)) (now (incumbent .entry))))
-        r (now (path .exit)) (now (incumbent .exit)) (now (workspace .exit))) ⌝ }
+    requires { ⌜ InBounds (now edges) (now masks) (now later) (checkpoint .path) (checkpoint .depth)
+        (size (take (checkpoint .depth) (checkpoint .path))) (now workspace) ⌝ }
+    requires { ⌜ (length (checkpoint .incumbent) ≡ 64) × (order ≤ 64) ⌝ }
+    ensures { λ r. ⌜ ((P : Problem) → Setting P order (now (edges .entry)) (now (masks .entry)) → InShape P checkpoint
+        → Words P (checkpoint .path) 0 (now (workspace .entry)) → Starts P checkpoint r (now (workspace .exit))) ⌝ }
 {
-    let depth = walk.place.depth;
-    let pairs = walk.place.pairs;
-    let cutoff = walk.cutoff;
-    let steps = walk.steps + 1;
-    let bound = upper_bound(edges, masks, path, workspace, depth, pairs);
-    if bound < cutoff {
-        return Walk {
-            steps,
-            place: retreat(order, path, workspace, depth, pairs),
-            cutoff,
-            holds: walk.holds,
-        };
+    let depth = checkpoint.depth;
+    let holds = checkpoint.holds;
+    let path = checkpoint.path;
+    let incumbent = checkpoint.incumbent;
+    let mut cutoff = checkpoint.minimum as usize;
+    if holds {
+        cutoff = mapping::mapping_size(&incumbent[..order]) + 1;
     }
-    if depth == order {
-        hold(order, path, incumbent);
-        return Walk {
-            steps,
-            place: retreat(order, path, workspace, depth, pairs),
-            cutoff: pairs + 1,
-            holds: true,
-        };
-    }
+    let pairs = mapping::mapping_size(&path[..depth]);
+    rebuild(edges, masks, later, &path, workspace, depth);
+    let bound = upper_bound(edges, masks, later, &path, workspace, depth, pairs, cutoff);
     Walk {
-        steps,
-        place: descend(order, path, workspace, depth, pairs),
+        checkpoint,
+        pairs,
         cutoff,
-        holds: walk.holds,
+        bound,
     }
 }
 
-// As many visits as the budget says, fewer only if the walk finishes.
+// As many visits as the budget says, fewer only if the search finishes.
 pub fn run(
     walk: Walk,
     budget: u64,
     order: usize,
     edges: &[u8],
     masks: &[u64],
-    path: &mut [u8; MAX_ORDER],
-    incumbent: &mut [u8; MAX_ORDER],
+    later: &[u64; MAX_ORDER],
     workspace: &mut [u64],
 ) -> Walk
-    requires { ⌜ (length (now incumbent) ≡ 64) × CountFits walk budget ⌝ }
-    requires { ⌜ Lent order (now edges) (now masks) walk (now path) (now incumbent) (now workspace) ⌝ }
-    ensures { λ r. ⌜ ((P : Problem) (minimum : ℕ) → Setting P order (now (edges .entry)) (now (masks .entry))
-        → Ready P minimum walk (now (path .entry)) (now (incumbent .entry)) (now (workspace .entry))
-        → Arrives P minimum order (visits (searchOf P) minimum budget (walkState order walk (now (path .entry)) (now (incumbent .entry))))
-        r (now (path .exit)) (now (incumbent .exit)) (now (workspace .exit))) ⌝ }
+    requires { ⌜ CountFits (walk .checkpoint) budget × Resumes order (now edges) (now masks) (now later) walk (now workspace) ⌝ }
+    ensures { λ r. ⌜ ((P : Problem) → Setting P order (now (edges .entry)) (now (masks .entry)) → Ready P walk (now (workspace .entry))
+        → Arrives P (walk .checkpoint .minimum)
+        (visits (searchOf P) (walk .checkpoint .minimum) budget (stateOf (P .old .order) (walk .checkpoint))) r (now (workspace .exit))) ⌝ }
 {
-    let mut now_at = walk;
-    let mut made = 0;
-    while made < budget {
-        let finished = now_at.place.finished;
-        if finished {
-            return now_at;
-        }
-        now_at = step(now_at, order, edges, masks, path, incumbent, workspace);
-        made += 1;
+    let finished = walk.checkpoint.finished;
+    if finished {
+        return walk;
     }
-    now_at
+    let last = walk.checkpoint.steps + budget;
+    let mut at = walk;
+    while at.checkpoint.steps < last {
+        let finished = at.checkpoint.finished;
+        if finished {
+            return at;
+        }
+        at = at.visit(order, edges, masks, later, workspace);
+    }
+    at
 }
 
 // The words of the path's ancestors, from those of the root.
 pub fn rebuild(
     edges: &[u8],
     masks: &[u64],
+    later: &[u64; MAX_ORDER],
     path: &[u8; MAX_ORDER],
     workspace: &mut [u64],
     depth: usize,
 )
-    requires { ⌜ InBounds (now edges) (now masks) (now path) depth (size (take depth (now path))) (now workspace) ⌝ }
+    requires { ⌜ InBounds (now edges) (now masks) (now later) (now path) depth (size (take depth (now path))) (now workspace) ⌝ }
     ensures { λ _. ⌜ ((P : Problem) → Setting P (P .old .order) (now (edges .entry)) (now (masks .entry)) → depth ≤ P .old .order
         → Reached (rulesOf P) (take depth (now (path .entry))) → Words P (now (path .entry)) 0 (now (workspace .entry))
         → Words P (now (path .entry)) (depth - 1) (now (workspace .exit))) ⌝ }
@@ -251,7 +345,16 @@ pub fn rebuild(
     while row + 1 < depth {
         let value = path[row];
         if value != UNMAPPED {
-            words::refine(edges, masks, workspace, row, pairs, value as usize);
+            words::refine(
+                edges,
+                masks,
+                later[row],
+                workspace,
+                OldVertex(row),
+                pairs,
+                NewVertex(value as usize),
+                0,
+            );
             pairs += 1;
         }
         row += 1;

@@ -3,6 +3,8 @@
 use super::WORDS;
 use bitset::Least;
 use graph::MAX_ORDER;
+use mapping::NewVertex;
+use mapping::OldVertex;
 use problem::Labels;
 use problem::Orders;
 ghost use mathlib.Core.Path.{_≡_};
@@ -13,7 +15,9 @@ ghost use Rattle.bitset.specs.Members.{setOf};
 ghost use Rattle.graph.specs.Graph.{graph};
 ghost use Rattle.problem.specs.Problem.{allowed};
 ghost use Rattle.problem.specs.Lent.{Tables, lent, BothLong};
-ghost use Rattle.search.specs.Words.{Masks, MaskRow, RootWords, levelWord, Refined, openRows, meetRows};
+ghost use Rattle.bitset.specs.Count.{size};
+ghost use Rattle.search.specs.Words.{Masks, MaskRow, RootWords, levelWord, Counted, openRows};
+ghost use Rattle.search.specs.Words.{laterNeighbours, Later, Met, nearWord, farWord};
 
 // How many values an edge label has, 0 for a null edge included: as many masks has a new vertex.
 const EDGE_LABELS: usize = 256;
@@ -26,11 +30,12 @@ const OPEN_SETS: usize = MAX_ORDER * MAX_ORDER;
 const NEXT_OPEN_SETS: usize = OPEN_SETS + 1;
 
 // The masks of the new vertex w: each other vertex v is added to the mask of the label of the edge of w and v, null edges too.
-pub fn mask_row(order: usize, edges: &[u8], w: usize, masks: &mut [u64])
-    requires { ⌜ (length (now edges) ≡ 4096) × (length (now masks) ≡ 16384) × (order ≤ 64) × (w < order) ⌝ }
-    requires { ⌜ ((k : ℕ) → k < 256 → getD (now masks) (256 * w + k) 0 ≡ 0) ⌝ }
-    ensures { λ _. ⌜ MaskRow (graph order [] (now (edges .entry))) w (now (masks .entry)) (now (masks .exit)) ⌝ }
+pub fn mask_row(order: usize, edges: &[u8], vertex: NewVertex, masks: &mut [u64])
+    requires { ⌜ (length (now edges) ≡ 4096) × (length (now masks) ≡ 16384) × (order ≤ 64) × (vertex .0 < order) ⌝ }
+    requires { ⌜ ((k : ℕ) → k < 256 → getD (now masks) (256 * vertex .0 + k) 0 ≡ 0) ⌝ }
+    ensures { λ _. ⌜ MaskRow (graph order [] (now (edges .entry))) (vertex .0) (now (masks .entry)) (now (masks .exit)) ⌝ }
 {
+    let w = vertex.0;
     let mut v = 0;
     while v < order {
         if v != w {
@@ -49,20 +54,21 @@ pub fn fill_masks(order: usize, edges: &[u8], masks: &mut [u64])
 {
     let mut w = 0;
     while w < order {
-        mask_row(order, edges, w, masks);
+        mask_row(order, edges, NewVertex(w), masks);
         w += 1;
     }
 }
 
 // The new vertices that the old vertex `row` may lie on. No edge has a say in it.
-pub fn allowed_word<'a>(orders: Orders, labels: Labels<'a>, row: usize) -> u64
-    requires { ⌜ BothLong 64 labels × (getD orders 1 0 ≤ 64) × (row < 64) ⌝ }
-    ensures { λ r. ⌜ ((edges : Tables) → r ≡ setOf 64 (allowed (lent orders (labels .entry) edges) row)) ⌝ }
+pub fn allowed_word<'a>(orders: Orders, labels: Labels<'a>, row: OldVertex) -> u64
+    requires { ⌜ BothLong 64 labels × (getD orders 1 0 ≤ 64) × (row .0 < 64) ⌝ }
+    ensures { λ r. ⌜ ((edges : Tables) → r ≡ setOf 64 (allowed (lent orders (labels .entry) edges) (row .0))) ⌝ }
 {
     let order = orders[1];
     let old = labels[0];
     let new = labels[1];
-    let label = old[row];
+    let at = row.0;
+    let label = old[at];
     let mut word = 0;
     let mut v = 0;
     while v < order {
@@ -83,7 +89,7 @@ pub fn root_words<'a>(orders: Orders, labels: Labels<'a>, workspace: &mut [u64])
     let mut rows = 0;
     let mut r = 0;
     while r < order {
-        let word = allowed_word(orders, labels, r);
+        let word = allowed_word(orders, labels, OldVertex(r));
         workspace[r] = word;
         if !bitset::is_empty(word) {
             rows = bitset::with(rows, r);
@@ -94,55 +100,181 @@ pub fn root_words<'a>(orders: Orders, labels: Labels<'a>, workspace: &mut [u64])
 }
 
 // The word of `row` at the level of `pairs` pairs.
-pub fn level_word(workspace: &[u64], pairs: usize, row: usize) -> u64
-    requires { ⌜ (4160 ≤ length (now workspace)) × (pairs < 64) × (row < 64) ⌝ }
-    ensures { λ r. ⌜ r ≡ levelWord (now (workspace .entry)) pairs row ⌝ }
+pub fn level_word(workspace: &[u64], pairs: usize, row: OldVertex) -> u64
+    requires { ⌜ (4160 ≤ length (now workspace)) × (pairs < 64) × (row .0 < 64) ⌝ }
+    ensures { λ r. ⌜ r ≡ levelWord (now (workspace .entry)) pairs (row .0) ⌝ }
 {
-    if bitset::has(workspace[OPEN_SETS + pairs], row) {
-        return workspace[MAX_ORDER * pairs + row];
+    if bitset::has(workspace[OPEN_SETS + pairs], row.0) {
+        return workspace[MAX_ORDER * pairs + row.0];
     }
     0
 }
 
-// The words after `row`, with `pairs` pairs before it, took `value`: the word of each later row that has one meets the mask of its edge to
-// `row`. Returns how many of them are not empty. After 64 pairs there is no later row.
-pub fn refine(
+// The rows after `row` that have an edge to it.
+pub fn later_neighbours(edges: &[u8], row: OldVertex) -> u64
+    requires { ⌜ (length (now edges) ≡ 4096) × (row .0 < 64) ⌝ }
+    ensures { λ r. ⌜ r ≡ laterNeighbours (now (edges .entry)) (row .0) ⌝ }
+{
+    let from = row.0;
+    let mut word = 0;
+    let mut r = from + 1;
+    while r < MAX_ORDER {
+        if edges[MAX_ORDER * from + r] != 0 {
+            word = bitset::with(word, r);
+        }
+        r += 1;
+    }
+    word
+}
+
+// The later neighbours of every row.
+pub fn all_later(edges: &[u8]) -> [u64; MAX_ORDER]
+    requires { ⌜ length (now edges) ≡ 4096 ⌝ }
+    ensures { λ r. ⌜ Later (now (edges .entry)) r ⌝ }
+{
+    let mut later = [0u64; MAX_ORDER];
+    let mut row = 0;
+    while row < MAX_ORDER {
+        later[row] = later_neighbours(edges, OldVertex(row));
+        row += 1;
+    }
+    later
+}
+
+// The rows that keep a candidate, and how many of the rows open before are not known to have lost theirs.
+pub struct Kept {
+    pub rows: u64,
+    pub count: usize,
+}
+
+// Of the rows `near`, neighbours of `row`, each word meets the mask of its edge to `row`, which took `value` after `pairs` pairs. Left as soon as
+// fewer than `need` rows are left.
+pub fn meet_near(
     edges: &[u8],
     masks: &[u64],
     workspace: &mut [u64],
-    row: usize,
+    row: OldVertex,
     pairs: usize,
-    value: usize,
-) -> usize
-    requires { ⌜ (length (now edges) ≡ 4096) × (length (now masks) ≡ 16384) × (4160 ≤ length (now workspace)) × (row < 64) × (pairs ≤ row) × (value < 64) ⌝ }
-    ensures words { λ _. ⌜ Refined (now (edges .entry)) (now (masks .entry)) row pairs value (now (workspace .entry)) (now (workspace .exit)) ⌝ }
-    ensures count { λ r. ⌜ r ≡ meetRows (now (edges .entry)) (now (masks .entry)) row pairs value (now (workspace .entry)) ⌝ }
+    value: NewVertex,
+    near: u64,
+    kept: Kept,
+    need: usize,
+) -> Kept
+    requires { ⌜ (length (now edges) ≡ 4096) × (length (now masks) ≡ 16384) × (4160 ≤ length (now workspace)) ⌝ }
+    requires { ⌜ (row .0 < 64) × (pairs < 63) × (value .0 < 64) × (size near ≤ kept .count) ⌝ }
+    ensures { λ r. ⌜ Met near (nearWord (now (edges .entry)) (now (masks .entry)) (row .0) pairs (value .0) (now (workspace .entry)))
+        (pairs + 1) need (now (workspace .entry)) kept (now (workspace .exit)) r ⌝ }
 {
-    if pairs == 63 {
-        return 0;
-    }
-    let mut rest = bitset::members_from(workspace[OPEN_SETS + pairs], row + 1);
-    let mut rows = 0;
+    let from = row.0;
+    let mut rest = near;
+    let mut rows = kept.rows;
+    let mut left = kept.count;
     loop {
         match bitset::least_member(rest) {
             Least::Member(r) => {
-                let label = edges[MAX_ORDER * row + r] as usize;
+                let label = edges[MAX_ORDER * from + r] as usize;
                 let word = bitset::meet(
                     workspace[MAX_ORDER * pairs + r],
-                    masks[EDGE_LABELS * value + label],
+                    masks[EDGE_LABELS * value.0 + label],
                 );
-                workspace[MAX_ORDER * pairs + MAX_ORDER + r] = word;
-                if !bitset::is_empty(word) {
+                if bitset::is_empty(word) {
+                    left -= 1;
+                    if left < need {
+                        return Kept { rows, count: left };
+                    }
+                } else {
                     rows = bitset::with(rows, r);
+                    workspace[MAX_ORDER * pairs + MAX_ORDER + r] = word;
                 }
                 rest = bitset::without_least(rest);
             }
             Least::Empty => {
-                workspace[NEXT_OPEN_SETS + pairs] = rows;
-                return bitset::size(rows) as usize;
+                return Kept { rows, count: left };
             }
         }
     }
+}
+
+// Of the rows `far`, no neighbours of the row just mapped, each word meets the one mask of null edges.
+pub fn meet_far(
+    mask: u64,
+    workspace: &mut [u64],
+    pairs: usize,
+    far: u64,
+    kept: Kept,
+    need: usize,
+) -> Kept
+    requires { ⌜ (4160 ≤ length (now workspace)) × (pairs < 63) × (size far ≤ kept .count) ⌝ }
+    ensures { λ r. ⌜ Met far (farWord mask pairs (now (workspace .entry))) (pairs + 1) need (now (workspace .entry)) kept (now (workspace .exit)) r ⌝ }
+{
+    let mut rest = far;
+    let mut rows = kept.rows;
+    let mut left = kept.count;
+    loop {
+        match bitset::least_member(rest) {
+            Least::Member(r) => {
+                let word = bitset::meet(workspace[MAX_ORDER * pairs + r], mask);
+                if bitset::is_empty(word) {
+                    left -= 1;
+                    if left < need {
+                        return Kept { rows, count: left };
+                    }
+                } else {
+                    rows = bitset::with(rows, r);
+                    workspace[MAX_ORDER * pairs + MAX_ORDER + r] = word;
+                }
+                rest = bitset::without_least(rest);
+            }
+            Least::Empty => {
+                return Kept { rows, count: left };
+            }
+        }
+    }
+}
+
+// The words after `row`, with `pairs` pairs before it, took `value`: the word of each later row that has one meets the mask of its edge to
+// `row`. Returns how many of them are not empty, or, once fewer than `need` can be, a number below `need`. After 64 pairs there is no later row.
+pub fn refine(
+    edges: &[u8],
+    masks: &[u64],
+    neighbours: u64,
+    workspace: &mut [u64],
+    row: OldVertex,
+    pairs: usize,
+    value: NewVertex,
+    need: usize,
+) -> usize
+    requires { ⌜ (length (now edges) ≡ 4096) × (length (now masks) ≡ 16384) × (4160 ≤ length (now workspace)) ⌝ }
+    requires { ⌜ (row .0 < 64) × (pairs ≤ row .0) × (value .0 < 64) × (neighbours ≡ laterNeighbours (now edges) (row .0)) ⌝ }
+    ensures { λ r. ⌜ Counted (now (edges .entry)) (now (masks .entry)) (row .0) pairs (value .0) need (now (workspace .entry)) (now (workspace .exit)) r ⌝ }
+{
+    if pairs == 63 {
+        return 0;
+    }
+    let open = bitset::members_from(workspace[OPEN_SETS + pairs], row.0 + 1);
+    let near = bitset::meet(open, neighbours);
+    let all = Kept {
+        rows: 0,
+        count: bitset::size(open) as usize,
+    };
+    let met = meet_near(edges, masks, workspace, row, pairs, value, near, all, need);
+    if met.count < need {
+        return met.count;
+    }
+    let mask = masks[EDGE_LABELS * value.0];
+    let kept = meet_far(
+        mask,
+        workspace,
+        pairs,
+        bitset::difference(open, near),
+        met,
+        need,
+    );
+    if kept.count < need {
+        return kept.count;
+    }
+    workspace[NEXT_OPEN_SETS + pairs] = kept.rows;
+    kept.count
 }
 
 // How many rows from `depth` on have a candidate, at a node with `pairs` pairs.

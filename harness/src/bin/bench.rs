@@ -1,13 +1,20 @@
 //! `bench` times the proved search, through the C interface, beside `fast` on the same graphs. It
 //! takes processor time, so that other work on the machine counts less, and the best of several
 //! rounds.
+//!
+//! `bench proved WALK VISITS` and `bench fast WALK VISITS` make so many visits of one walk by one of
+//! the two alone, untimed, for a program that counts instructions. The script `instructions` beside
+//! `run` does this with valgrind, and divides by the visits.
 
+use std::env;
+use std::process::ExitCode;
 use std::time::Duration;
 
 use harness::answer::Answer;
 use harness::cases::{graph, Style};
 use harness::fast::Search;
 use harness::library::{self, CHECKPOINT_BYTES, WORKSPACE_WORDS};
+use harness::panels;
 use harness::random::Random;
 use harness::reference::{Checkpoint, Problem};
 
@@ -16,36 +23,51 @@ const SLICES: usize = 20;
 const SLICE: u64 = 1_000_000;
 const ROUNDS: usize = 5;
 const CALLS: u32 = 200;
-const WANTED_RATIO: f64 = 1.5;
+const WANTED_RATIO: f64 = 2.0;
 const WANTED_MICROSECONDS: f64 = 100.0;
 
-/// Two random graphs of so many vertices and labels; the density is the chance of an edge, in
-/// percent.
-struct Shape {
-    order: usize,
-    vertex_labels: u8,
-    edge_labels: u8,
-    density: usize,
+enum Shape {
+    /// Two random graphs of so many vertices and labels; the density is the chance of an edge, in
+    /// percent.
+    Random {
+        order: usize,
+        vertex_labels: u8,
+        edge_labels: u8,
+        density: usize,
+    },
+    /// A panel and its changed copy. The seeds below are among those whose walks are long.
+    Panel {
+        order: usize,
+        vertex_labels: u8,
+        seed: u64,
+    },
 }
 
-const WALKS: [Shape; 6] = [
-    shape(40, 2, 1, 30),
-    shape(48, 2, 1, 30),
-    shape(48, 3, 2, 30),
-    shape(56, 2, 2, 30),
-    shape(64, 2, 1, 30),
-    shape(64, 3, 1, 30),
+const WALKS: [Shape; 12] = [
+    random(40, 2, 1, 30),
+    random(48, 2, 1, 30),
+    random(48, 3, 2, 30),
+    random(56, 2, 2, 30),
+    random(64, 2, 1, 30),
+    random(64, 3, 1, 30),
+    panel(40, 12, 15),
+    panel(48, 12, 19),
+    panel(56, 16, 7),
+    panel(56, 16, 13),
+    panel(64, 20, 0),
+    panel(64, 20, 21),
 ];
 
-const SINGLE_CALLS: [Shape; 4] = [
-    shape(64, 2, 1, 30),
-    shape(64, 1, 1, 100),
-    shape(64, 1, 3, 100),
-    shape(64, 1, 1, 0),
+const SINGLE_CALLS: [Shape; 5] = [
+    random(64, 2, 1, 30),
+    random(64, 1, 1, 100),
+    random(64, 1, 3, 100),
+    random(64, 1, 1, 0),
+    panel(64, 20, 0),
 ];
 
-const fn shape(order: usize, vertex_labels: u8, edge_labels: u8, density: usize) -> Shape {
-    Shape {
+const fn random(order: usize, vertex_labels: u8, edge_labels: u8, density: usize) -> Shape {
+    Shape::Random {
         order,
         vertex_labels,
         edge_labels,
@@ -53,7 +75,57 @@ const fn shape(order: usize, vertex_labels: u8, edge_labels: u8, density: usize)
     }
 }
 
-fn main() {
+const fn panel(order: usize, vertex_labels: u8, seed: u64) -> Shape {
+    Shape::Panel {
+        order,
+        vertex_labels,
+        seed,
+    }
+}
+
+fn main() -> ExitCode {
+    let arguments: Vec<String> = env::args().skip(1).collect();
+    let arguments: Vec<&str> = arguments.iter().map(String::as_str).collect();
+    match arguments[..] {
+        [] => time_all(),
+        [side, walk, visits] => match walk_alone(side, walk, visits) {
+            Some(steps) => println!("{steps} visits"),
+            None => return usage(),
+        },
+        _ => return usage(),
+    }
+    ExitCode::SUCCESS
+}
+
+fn usage() -> ExitCode {
+    eprintln!("bench\nbench proved WALK VISITS\nbench fast WALK VISITS\nwalks:");
+    for (number, shape) in WALKS.iter().enumerate() {
+        eprintln!("  {number:2}: {shape}");
+    }
+    ExitCode::from(2)
+}
+
+/// Answers how many visits were made: fewer if the walk is finished.
+fn walk_alone(side: &str, walk: &str, visits: &str) -> Option<u64> {
+    let problem = WALKS.get(walk.parse::<usize>().ok()?)?.problem();
+    let visits = visits.parse().ok()?;
+    match side {
+        "proved" => {
+            let mut library = LibrarySearch::start(&problem);
+            library.advance(visits);
+            let reported = Checkpoint::load(&problem, &library.checkpoint);
+            reported.ok().map(|checkpoint| checkpoint.steps)
+        }
+        "fast" => {
+            let mut search = Search::start(&problem, 0);
+            search.advance(visits);
+            Some(search.checkpoint().steps)
+        }
+        _ => None,
+    }
+}
+
+fn time_all() {
     println!("walks of {SLICES} * {SLICE} visits, best of {ROUNDS} rounds:");
     let walks = WALKS.map(|shape| time_walk(&shape));
     println!("calls of one visit, best of {ROUNDS} rounds of {CALLS} calls:");
@@ -108,7 +180,11 @@ fn time_walk(shape: &Shape) -> Walk {
     let [proved, fast] = [proved, fast].map(|slices| slices.iter().sum::<Duration>());
     let ratio = proved.as_secs_f64() / fast.as_secs_f64();
     let [proved, fast] = [proved, fast].map(|time| time.as_secs_f64() * 1e9 / steps as f64);
-    println!("  {shape}: proved {proved:5.1} ns a visit, fast {fast:5.1} ns, ratio {ratio:.2}");
+    print!("  {shape}: proved {proved:5.1} ns a visit, fast {fast:5.1} ns, ratio {ratio:.2}");
+    match steps < SLICES as u64 * SLICE {
+        true => println!(", finished after {steps}"),
+        false => println!(),
+    }
     Walk { ratio, same }
 }
 
@@ -129,32 +205,55 @@ fn time_calls(shape: &Shape) -> f64 {
 
 impl Shape {
     fn problem(&self) -> Problem {
-        let mut random = Random::new(self.order as u64);
-        let style = Style {
-            vertex_labels: (1..=self.vertex_labels).collect(),
-            edge_labels: (1..=self.edge_labels).collect(),
-            density: self.density,
-        };
-        let mut one = || graph(&mut random, &style, self.order);
-        Problem {
-            old: one(),
-            new: one(),
+        match *self {
+            Shape::Random {
+                order,
+                vertex_labels,
+                edge_labels,
+                density,
+            } => {
+                let mut random = Random::new(order as u64);
+                let style = Style {
+                    vertex_labels: (1..=vertex_labels).collect(),
+                    edge_labels: (1..=edge_labels).collect(),
+                    density,
+                };
+                let mut one = || graph(&mut random, &style, order);
+                Problem {
+                    old: one(),
+                    new: one(),
+                }
+            }
+            Shape::Panel {
+                order,
+                vertex_labels,
+                seed,
+            } => panels::problem(&mut Random::new(seed), order, vertex_labels),
         }
     }
 }
 
 impl std::fmt::Display for Shape {
     fn fmt(&self, f: &mut std::fmt::Formatter) -> std::fmt::Result {
-        let Shape {
-            order,
-            vertex_labels,
-            edge_labels,
-            density,
-        } = self;
-        write!(
-            f,
-            "{order} vertices, {vertex_labels} + {edge_labels} labels, density {density:3} %"
-        )
+        match self {
+            Shape::Random {
+                order,
+                vertex_labels,
+                edge_labels,
+                density,
+            } => write!(
+                f,
+                "{order} vertices, {vertex_labels:2} + {edge_labels} labels, density {density:3} %"
+            ),
+            Shape::Panel {
+                order,
+                vertex_labels,
+                seed,
+            } => write!(
+                f,
+                "{order} vertices, {vertex_labels} + 3 labels, panel seed {seed:2}"
+            ),
+        }
     }
 }
 

@@ -1,7 +1,7 @@
 //! The five functions of include/golfcedar.h: their answers, and what they leave in lent memory.
 
 use super::{advance, ceiling, check, entries_from_bytes, entries_to_bytes, size};
-use super::{Checkpoint, Graph, Problem, Reason, Refusal, MAX_VERTICES};
+use super::{Checkpoint, Graph, Problem, Reason, Refusal};
 use crate::answer::Answer;
 
 pub const CHECKPOINT_BYTES: usize = 270;
@@ -19,9 +19,9 @@ pub fn check_mapping(old: &[u8], new: &[u8], mapping: &[u8]) -> Answer {
 }
 
 pub fn start(old: &[u8], new: &[u8], minimum: u8, checkpoint: &mut [u8]) -> Answer {
-    let started = room(checkpoint, CHECKPOINT_BYTES)
-        .and_then(|()| Problem::parse(old, new))
-        .map(|_| Answer::accepted(fill(checkpoint, &Checkpoint::fresh(minimum).save())));
+    let started = Problem::parse(old, new)
+        .and_then(|_| fill(checkpoint, &Checkpoint::fresh(minimum).save()))
+        .map(Answer::accepted);
     answer(started)
 }
 
@@ -33,37 +33,34 @@ pub fn resume(
     workspace: &mut [u64],
     next: &mut [u8],
 ) -> Answer {
-    let resumed = room(next, CHECKPOINT_BYTES)
-        .and_then(|()| Problem::parse(old, new))
-        .and_then(|problem| {
-            let checkpoint = Checkpoint::load(&problem, checkpoint)?;
-            may_advance(&checkpoint, budget, workspace)?;
-            let after = advance(&problem, &checkpoint, budget);
-            workspace[..WORKSPACE_WORDS].fill(0);
-            Ok(Answer {
-                value: fill(next, &after.save()),
-                ceiling: ceiling(&problem, &after) as u64,
-                ..Answer::default()
-            })
-        });
+    let resumed = Problem::parse(old, new).and_then(|problem| {
+        let checkpoint = Checkpoint::load(&problem, checkpoint)?;
+        may_advance(&checkpoint, budget, workspace)?;
+        let after = advance(&problem, &checkpoint, budget);
+        let value = fill(next, &after.save())?;
+        workspace[..WORKSPACE_WORDS].fill(0);
+        Ok(Answer {
+            value,
+            ceiling: ceiling(&problem, &after) as u64,
+            ..Answer::default()
+        })
+    });
     answer(resumed)
 }
 
 pub fn read_out(old: &[u8], new: &[u8], checkpoint: &[u8], mapping: &mut [u8]) -> Answer {
-    let read = room(mapping, MAX_VERTICES)
-        .and_then(|()| Problem::parse(old, new))
-        .and_then(|problem| {
-            let checkpoint = Checkpoint::load(&problem, checkpoint)?;
-            let incumbent = checkpoint.incumbent.as_deref().unwrap_or_default();
-            fill(mapping, &entries_to_bytes(incumbent));
-            Ok(Answer {
-                value: checkpoint.state().into(),
-                steps: checkpoint.steps,
-                size: size(incumbent) as u64,
-                ceiling: ceiling(&problem, &checkpoint) as u64,
-                ..Answer::default()
-            })
-        });
+    let read = Problem::parse(old, new).and_then(|problem| {
+        let checkpoint = Checkpoint::load(&problem, checkpoint)?;
+        let incumbent = checkpoint.incumbent.as_deref().unwrap_or_default();
+        fill(mapping, &entries_to_bytes(incumbent))?;
+        Ok(Answer {
+            value: checkpoint.state().into(),
+            steps: checkpoint.steps,
+            size: size(incumbent) as u64,
+            ceiling: ceiling(&problem, &checkpoint) as u64,
+            ..Answer::default()
+        })
+    });
     answer(read)
 }
 
@@ -77,18 +74,13 @@ fn may_advance(checkpoint: &Checkpoint, budget: u64, workspace: &[u64]) -> Resul
     Ok(())
 }
 
-fn room(output: &[u8], least: usize) -> Result<(), Refusal> {
-    if output.len() < least {
-        Err(Reason::OutputTooShort.into())
-    } else {
-        Ok(())
+/// Stores `bytes` at the front of `output`, if they fit, and answers how many these are.
+fn fill(output: &mut [u8], bytes: &[u8]) -> Result<u64, Refusal> {
+    if output.len() < bytes.len() {
+        return Err(Reason::OutputTooShort.into());
     }
-}
-
-/// Stores `bytes` at the front of `output`, and answers how many these are.
-fn fill(output: &mut [u8], bytes: &[u8]) -> u64 {
     output[..bytes.len()].copy_from_slice(bytes);
-    bytes.len() as u64
+    Ok(bytes.len() as u64)
 }
 
 fn answer(result: Result<Answer, Refusal>) -> Answer {

@@ -36,17 +36,17 @@ of-read-requires c κs = search needs
 enum-known-old-order : tie.Need-enum-known-old-order
 enum-known-old-order c = search needs
 
-slice-aggregate-t28 : tie.Need-slice-aggregate-t28
-slice-aggregate-t28 c = search needs
+slice-aggregate-t29 : tie.Need-slice-aggregate-t29
+slice-aggregate-t29 c = search needs
 
-slice-aggregate-t30 : tie.Need-slice-aggregate-t30
-slice-aggregate-t30 c = search needs
+slice-aggregate-t31 : tie.Need-slice-aggregate-t31
+slice-aggregate-t31 c = search needs
 
-slice-aggregate-t33 : tie.Need-slice-aggregate-t33
-slice-aggregate-t33 c = search needs
+slice-aggregate-t34 : tie.Need-slice-aggregate-t34
+slice-aggregate-t34 c = search needs
 
-slice-aggregate-t35 : tie.Need-slice-aggregate-t35
-slice-aggregate-t35 c = search needs
+slice-aggregate-t36 : tie.Need-slice-aggregate-t36
+slice-aggregate-t36 c = search needs
 
 check-mapping-requires : tie.Need-check-mapping-requires
 check-mapping-requires c κs = search needs
@@ -79,10 +79,10 @@ golfcedar-check-mapping-spec =
     enum-known-refusal
     of-read-requires
     enum-known-old-order
-    slice-aggregate-t28
-    slice-aggregate-t30
-    slice-aggregate-t33
-    slice-aggregate-t35
+    slice-aggregate-t29
+    slice-aggregate-t31
+    slice-aggregate-t34
+    slice-aggregate-t36
     check-mapping-requires
     of-mapping-requires
     returns

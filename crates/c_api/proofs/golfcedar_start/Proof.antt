@@ -1,6 +1,6 @@
--- `c_api::golfcedar_start` meets its contract: the room is tested, the graphs are read, and a fresh checkpoint is saved (`ReadArms`). Assumes nothing.
+-- `c_api::golfcedar_start` meets its contract: the graphs are read, and a fresh checkpoint is saved (`ReadArms`). Assumes nothing.
 use Rattle.problem_reader.proofs.ReadProblem.{problem-read, problem-refused}
-use Rattle.c_api.proofs.ReadArms.{start-short, start-refused, start-read}
+use Rattle.c_api.proofs.ReadArms.{start-refused, start-read}
 use borrow.Author.Needs.{needs}
 use Rattle.c_api.proofs.golfcedar_start.Statement.{statement}
 use Rattle.c_api.proofs.golfcedar_start.Tie as tie
@@ -9,14 +9,8 @@ use Rattle.c_api.proofs.golfcedar_start.Tie as tie
 abbrev at-read : tie.After-new-edges2 → tie.After-read-problem
 at-read c = c .before .before .before .before
 
-abbrev at-room : tie.After-read-problem → tie.Else1
-at-room c = c .before .before .before .before .before
-
 abbrev at-fresh : tie.After-save-checkpoint → tie.After-fresh
 at-fresh c = c .before .before .before .before .before .before
-
-returns : tie.Need-returns
-returns c = start-short _ _ _ _ (c .if1 .taken)
 
 slice-aggregate-read-problem : tie.Need-slice-aggregate-read-problem
 slice-aggregate-read-problem c = search needs
@@ -45,17 +39,17 @@ enum-known-old-order c = search needs
 fresh-requires : tie.Need-fresh-requires
 fresh-requires c κs = search needs
 
-slice-aggregate-t31 : tie.Need-slice-aggregate-t31
-slice-aggregate-t31 c = search needs
+slice-aggregate-t30 : tie.Need-slice-aggregate-t30
+slice-aggregate-t30 c = search needs
 
-slice-aggregate-t33 : tie.Need-slice-aggregate-t33
-slice-aggregate-t33 c = search needs
+slice-aggregate-t32 : tie.Need-slice-aggregate-t32
+slice-aggregate-t32 c = search needs
 
-slice-aggregate-t36 : tie.Need-slice-aggregate-t36
-slice-aggregate-t36 c = search needs
+slice-aggregate-t35 : tie.Need-slice-aggregate-t35
+slice-aggregate-t35 c = search needs
 
-slice-aggregate-t38 : tie.Need-slice-aggregate-t38
-slice-aggregate-t38 c = search needs
+slice-aggregate-t37 : tie.Need-slice-aggregate-t37
+slice-aggregate-t37 c = search needs
 
 save-checkpoint-requires : tie.Need-save-checkpoint-requires
 save-checkpoint-requires c κs = search needs
@@ -63,23 +57,23 @@ save-checkpoint-requires c κs = search needs
 of-save-requires : tie.Need-of-save-requires
 of-save-requires c κs = search needs
 
-returns-2 : tie.Need-returns-2
-returns-2 c =
+returns : tie.Need-returns
+returns c =
     let arm = c .before .before in
     let g = at-read (arm .before .before) in
-    start-refused _ _ _ _ (at-room g .if1 .left) _ _ (c .of-read .ensures)
+    start-refused _ _ _ _ _ _ (c .of-read .ensures)
     (problem-refused _ _ (g .read-problem .result) _ _ _ _ (g .read-problem .ensures) _ (arm .refusal .given .1))
 
 same-length : tie.Need-same-length
 same-length c = search needs
 
-returns-3 : tie.Need-returns-3
-returns-3 c =
+returns-2 : tie.Need-returns-2
+returns-2 c =
     let save = c .before .before .before in
     let fresh = at-fresh save in
     let arm = fresh .before .before in
     let g = at-read (arm .before .before) in
-    start-read _ _ _ _ (at-room g .if1 .left)
+    start-read _ _ _ _
     _ (problem-read _ _ (g .read-problem .result) _ _ _ _ (g .read-problem .ensures) _ _ (arm .old-order .given .1))
     _ (save .save-checkpoint .result) _ _ (c .of-save .ensures) (save .save-checkpoint .ensures) (fresh .fresh .ensures)
 
@@ -87,7 +81,6 @@ pub golfcedar-start-spec : {M : Type 1} → statement M
 golfcedar-start-spec =
     tie.close
     (tie.spec
-    returns
     slice-aggregate-read-problem
     slice-aggregate-read-problem-2
     slice-aggregate-read-problem-3
@@ -97,12 +90,12 @@ golfcedar-start-spec =
     of-read-requires
     enum-known-old-order
     fresh-requires
-    slice-aggregate-t31
-    slice-aggregate-t33
-    slice-aggregate-t36
-    slice-aggregate-t38
+    slice-aggregate-t30
+    slice-aggregate-t32
+    slice-aggregate-t35
+    slice-aggregate-t37
     save-checkpoint-requires
     of-save-requires
-    returns-2
+    returns
     same-length
-    returns-3)
+    returns-2)

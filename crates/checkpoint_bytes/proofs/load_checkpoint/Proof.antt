@@ -7,8 +7,8 @@ use Rattle.problem.specs.Problem.{Problem, problemAnswer}
 use Rattle.problem.specs.Lent.{lent}
 use Rattle.problem.specs.Answers.{problemAnswerOf}
 use Rattle.problem.proofs.ProblemPasses.{passes-problem}
-use Rattle.search.specs.Checking.{checkpointAnswer}
-use Rattle.search.specs.Answers.{shapeAnswer}
+use Rattle.checkpoint.specs.Checking.{checkpointAnswer}
+use Rattle.checkpoint.specs.Answers.{shapeAnswer}
 use Rattle.checkpoint_bytes.specs.Form.{formFault, faultOf}
 use Rattle.checkpoint_bytes.specs.Loading.{refuse, loading}
 use Rattle.checkpoint_bytes.proofs.LoadRefusals.{load-flawed, load-malformed, load-passed, load-refused}

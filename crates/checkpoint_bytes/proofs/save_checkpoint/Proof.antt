@@ -5,9 +5,9 @@ use lib.ListN.{length-map}
 use Rattle.answers.specs.Answer.{passed}
 use Rattle.problem.specs.Problem.{Problem}
 use Rattle.problem.specs.Lent.{lent}
-use Rattle.search.specs.Checking.{checkpointAnswer}
-use Rattle.search.specs.Answers.{shapeAnswer}
-use Rattle.search.proofs.CheckpointPasses.{passes-shape}
+use Rattle.checkpoint.specs.Checking.{checkpointAnswer}
+use Rattle.checkpoint.specs.Answers.{shapeAnswer}
+use Rattle.checkpoint.proofs.CheckpointPasses.{passes-shape}
 use Rattle.checkpoint_bytes.specs.Saving.{saving}
 use borrow.Author.Needs.{needs}
 use Rattle.checkpoint_bytes.proofs.save_checkpoint.Statement.{statement}

@@ -4,7 +4,7 @@ use lib.ListN.{take, replicate}
 use lib.Seq.{length-take-le}
 use borrow.Author.Needs.{needs}
 use Rattle.refit_text.specs.Program.{refitText}
-use Rattle.report.proofs.FilledBuffer.{written-fits}
+use Rattle.refit_text.proofs.FilledBuffer.{written-fits}
 use Rattle.refit.proofs.main.Statement.{statement}
 use Rattle.refit.proofs.main.Tie as tie
 
@@ -50,22 +50,18 @@ array-share-prefix-input c = search needs
 slice-aggregate-refit-3 : tie.Need-slice-aggregate-refit-3
 slice-aggregate-refit-3 c = search needs
 
-slice-aggregate-refit-4 : tie.Need-slice-aggregate-refit-4
-slice-aggregate-refit-4 c = search needs
-
 refit-requires : tie.Need-refit-requires
 refit-requires c κs = search needs
 
-enum-known-answer : tie.Need-enum-known-answer
-enum-known-answer c = search needs
-
 array-share-prefix-out : tie.Need-array-share-prefix-out
 array-share-prefix-out c =
-    let old = c .before .before .before .before .before .before .before .before .before .before .before .before .before .before .before .before .before .read-file in
-    let new = c .before .before .before .before .before .before .before .before .before .before .before .before .before .read-file2 in
-    let input = c .before .before .before .before .before .before .before .before .before .before .read-all in
-    let text = refitText (take (old .result) (old .last .1 .0)) (take (new .result) (new .last .1 .0)) (take (input .result) (input .last .1 .0)) in
-    written-fits text (replicate 8192 0) _ _ _ (c .before .answer .given .1) (c .before .before .before .before .refit .ensures)
+    let input = c .before .before .before .before .before .before in
+    let new = input .before .before .before in
+    let old = new .before .before .before .before .read-file in
+    let text =
+    refitText (take (old .result) (old .last .1 .0)) (take (new .read-file2 .result) (new .read-file2 .last .1 .0))
+    (take (input .read-all .result) (input .read-all .last .1 .0)) in
+    written-fits text (replicate 8192 0) _ _ (c .refit .ensures)
 
 slice-aggregate-write-all : tie.Need-slice-aggregate-write-all
 slice-aggregate-write-all c = sym (length-take-le _ _ (array-share-prefix-out (c .before)))
@@ -75,9 +71,6 @@ write-all-requires c κs = search needs
 
 returns : tie.Need-returns
 returns c = search needs
-
-returns-2 : tie.Need-returns-2
-returns-2 c = search needs
 
 pub main-spec : {M : Type 1} → statement M
 main-spec =
@@ -97,11 +90,8 @@ main-spec =
     slice-aggregate-refit-2
     array-share-prefix-input
     slice-aggregate-refit-3
-    slice-aggregate-refit-4
     refit-requires
-    enum-known-answer
     array-share-prefix-out
     slice-aggregate-write-all
     write-all-requires
-    returns
-    returns-2)
+    returns)

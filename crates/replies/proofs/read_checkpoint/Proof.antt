@@ -1,8 +1,13 @@
--- `replies::read_checkpoint` meets its contract: the ceiling is that of a call that makes no visit (`CallArms`). Assumes nothing.
-use lib.ListN.{length-map}
+-- `replies::read_checkpoint` meets its contract: what is held fits or is refused, and the ceiling is that of a call that makes no visit
+-- (`CallArms`). Assumes nothing.
+use mathlib.Core.Path.{_≡_}
+use Prim.Native.Nat.{_≤_}
+use native.Mathlib.Omega.{arith}
+use lib.ListN.{length, length-map}
 use Rattle.problem.specs.Problem.{Problem}
 use Rattle.problem.specs.Lent.{lent}
-use Rattle.replies.proofs.CallArms.{read-numbers}
+use Rattle.checkpoint_bytes.proofs.SavedBytes.{incumbent-few}
+use Rattle.replies.proofs.CallArms.{read-short, read-numbers}
 use borrow.Author.Needs.{needs}
 use Rattle.replies.proofs.read_checkpoint.Statement.{statement}
 use Rattle.replies.proofs.read_checkpoint.Tie as tie
@@ -11,11 +16,31 @@ use Rattle.replies.proofs.read_checkpoint.Tie as tie
 abbrev asked : tie.Start → Problem
 asked s = lent (s .args .t1) (s .args .labels) (s .args .edges)
 
-abbrev at-entry : tie.After-search → tie.Start
-at-entry c = c .before .before .before
+incumbent-long : (s : tie.Start) → length (s .args .checkpoint .incumbent) ≡ 64
+incumbent-long s =
+    let fields = s .good .1 .1 .1 .0 .1 .1 in
+    simp length-map at (fields .1 .1 .1 .1 .1 .1 .0 .1 .0 .1)
 
-abbrev at-search : tie.After-put-incumbent-arg → tie.After-search
+abbrev at-entry : tie.After-entries-held → tie.Start
+at-entry c = c .before .before
+
+abbrev at-room : tie.After-search → tie.Else1
+at-room c = c .before .before
+
+abbrev at-search : tie.After-put-entries-arg → tie.After-search
 at-search c = c .before .before .before .before .before
+
+array-read-entries-held : tie.Need-array-read-entries-held
+array-read-entries-held c = search needs
+
+entries-held-requires : tie.Need-entries-held-requires
+entries-held-requires c κs = search needs
+
+returns : tie.Need-returns
+returns c =
+    let held = c .before in
+    let s = at-entry held in
+    read-short (asked s) (s .args .checkpoint) (s .args .mapping .now) _ (held .entries-held .ensures) (s .pre) (incumbent-long s) (c .if1 .taken)
 
 slice-aggregate-search : tie.Need-slice-aggregate-search
 slice-aggregate-search c = search needs
@@ -26,47 +51,51 @@ search-requires c κs = search needs
 search-value-requires : tie.Need-search-value-requires
 search-value-requires c κs = search needs
 
-slice-aggregate-put-incumbent : tie.Need-slice-aggregate-put-incumbent
-slice-aggregate-put-incumbent c = search needs
+slice-aggregate-put-entries : tie.Need-slice-aggregate-put-entries
+slice-aggregate-put-entries c = search needs
 
-array-read-put-incumbent : tie.Need-array-read-put-incumbent
-array-read-put-incumbent c = search needs
-
-put-incumbent-requires : tie.Need-put-incumbent-requires
-put-incumbent-requires c κs =
-    let s = at-entry (at-search c) in
-    let fields = s .good .1 .1 .1 .0 .1 .1 in
-    (simp length-map at (fields .1 .1 .1 .1 .1 .1 .0 .1 .0 .1), s .pre .0, s .pre .1)
+put-entries-requires : tie.Need-put-entries-requires
+put-entries-requires c κs =
+    let room = at-room (at-search c) in
+    let held = room .before in
+    let s = at-entry held in
+    let few : held .entries-held .result ≤ 64 =
+    omega (arith, held .entries-held .ensures, incumbent-few (asked s .old .order) (s .args .checkpoint .holds), s .pre) in
+    (incumbent-long s, few, room .if1 .left)
 
 state-byte-requires : tie.Need-state-byte-requires
 state-byte-requires c κs = search needs
 
-cast-t26 : tie.Need-cast-t26
-cast-t26 c = search needs
+cast-t29 : tie.Need-cast-t29
+cast-t29 c = search needs
 
 same-length : tie.Need-same-length
 same-length c = search needs
 
-returns : tie.Need-returns
-returns c =
+returns-2 : tie.Need-returns-2
+returns-2 c =
     let put = c .before .before .before in
     let call = at-search (put .before) in
-    let s = at-entry call in
-    read-numbers (asked s) (s .args .checkpoint) (s .args .mapping .now) _ _ _ _ (call .search .result) _
-    (c .state-byte .ensures) (put .put-incumbent .ensures .0) (put .put-incumbent .ensures .1)
+    let room = at-room call in
+    let held = room .before in
+    let s = at-entry held in
+    read-numbers (asked s) (s .args .checkpoint) (s .args .mapping .now) _ (held .entries-held .ensures) (s .pre) (incumbent-long s)
+    (room .if1 .left) _ _ _ _ (call .search .result) _ (c .state-byte .ensures) (put .put-entries .ensures .0) (put .put-entries .ensures .1)
     (call .search .ensures) (put .before .before .before .search-value .ensures)
 
 pub read-checkpoint-spec : {M : Type 1} → statement M
 read-checkpoint-spec =
     tie.close
     (tie.spec
+    array-read-entries-held
+    entries-held-requires
+    returns
     slice-aggregate-search
     search-requires
     search-value-requires
-    slice-aggregate-put-incumbent
-    array-read-put-incumbent
-    put-incumbent-requires
+    slice-aggregate-put-entries
+    put-entries-requires
     state-byte-requires
-    cast-t26
+    cast-t29
     same-length
-    returns)
+    returns-2)

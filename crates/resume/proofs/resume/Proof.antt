@@ -43,11 +43,11 @@ use denote.Triple.Call.{calls-at}
 use denote.Triple.Clauses.{Lasts, ensured, lasts}
 use denote.Triple.Table.{entered, cited}
 use denote.Triple.Walked.{says, Stays, stay-dropped, stay-ref, gave-slice, walkOf, goes-ref, goes-gave-slice, Walks, ends-at, walked, walk-meets}
-use Rattle.search.specs.declared.checkpoint.Checkpoint.{Checkpoint}
+use Rattle.checkpoint.specs.declared.Checkpoint.{Checkpoint}
 use Rattle.search.specs.declared.Searched.{Searched}
 use Rattle.search.specs.Answers.{calledOf}
-use Rattle.search.proofs.checkpoint.Checkpoint as C
-use Rattle.search.proofs.checkpoint.Checkpoint.Laws as C′
+use Rattle.checkpoint.proofs.Checkpoint as C
+use Rattle.checkpoint.proofs.Checkpoint.Laws as C′
 use Rattle.search.proofs.SearchAnswer as N
 use Rattle.search.proofs.SearchAnswer.Laws as N′
 use Rattle.search.proofs.Searched as S

@@ -45,21 +45,21 @@ use denote.Triple.Call.{calls-at}
 use denote.Triple.Clauses.{Lasts, ensured, lasts}
 use denote.Triple.Table.{entered, cited}
 use denote.Triple.Walked.{says, Stays, stay-dropped, gave-slice, walkOf, goes-gave-slice, Walks, ends-at, walked, walk-meets}
-use Rattle.search.specs.declared.checkpoint.Checkpoint.{Checkpoint}
+use Rattle.checkpoint.specs.declared.Checkpoint.{Checkpoint}
 use Rattle.search.specs.declared.SearchAnswer.{SearchAnswer}
 use Rattle.search.specs.declared.Searched.{Searched}
-use Rattle.search.specs.Checkpoints.{freshCheckpoint}
+use Rattle.checkpoint.specs.Checkpoints.{freshCheckpoint}
 use Rattle.search.specs.Answers.{calledOf}
-use Rattle.search.proofs.checkpoint.Checkpoint as C
-use Rattle.search.proofs.checkpoint.Checkpoint.Laws as C′
+use Rattle.checkpoint.proofs.Checkpoint as C
+use Rattle.checkpoint.proofs.Checkpoint.Laws as C′
 use Rattle.search.proofs.SearchAnswer as N
 use Rattle.search.proofs.SearchAnswer.Laws as N′
 use Rattle.search.proofs.Searched as S
 use Rattle.search.proofs.Searched.Laws as S′
-use Rattle.search.proofs.checkpoint.Checkpoint.fresh as fresh
-use Rattle.search.proofs.checkpoint.Checkpoint.fresh.Symbol as fresh-def
-use Rattle.search.proofs.checkpoint.Checkpoint.fresh.Symbol.{name as #search·fresh}
-use Rattle.search.proofs.checkpoint.Checkpoint.fresh.Met as fresh-thm
+use Rattle.checkpoint.proofs.Checkpoint.fresh as fresh
+use Rattle.checkpoint.proofs.Checkpoint.fresh.Symbol as fresh-def
+use Rattle.checkpoint.proofs.Checkpoint.fresh.Symbol.{name as #checkpoint·fresh}
+use Rattle.checkpoint.proofs.Checkpoint.fresh.Met as fresh-thm
 use Rattle.resume.specs.Lent.{lentCall}
 use Rattle.resume.proofs.Locals.{arg, frees-at}
 use Rattle.resume.proofs.Parameters.{with-second, fourth, with-fourth, sixth, callOf, rows, others, orders-tells, tables-tells, orders-typed, tables-typed, token-out, token-in, fourth-out, fourth-in, silent, past-three, after-three}
@@ -147,7 +147,7 @@ module _ {M : Type 1} (𝓤 : URA M) (H : Heap 𝓤) (A : Atoms 𝓤) (W : Given
       suffices ! _ (ends-at 𝓤 H A start.ended stayed (start.clauses 𝓤 H A at-mem run) W ((κs, qs, tt, a, vals), tt) _ r (tt, (tt, (tt, (tt, (tt, (zs, tt)))))) (tt, (tt, (tt, (tt, (tt, (l, tt))))))) $ says ! e $ frame ! $
       nothing ! $ move ! (1 ∷ 0 ∷ []) $ fjoin ! $ nothing ! $ fjoin ! $ nothing ! $ fjoin ! $ after-three ! $ frame ! $ owned ! S.the-row (Is S.the-row) (LL.makes S.the-type S′.the-plain 𝓤 H A) r _ is $ done !
 
-  module _ (𝓒 : Calls 𝓤 H) (Λ : Loops 𝓤 H) (fm : FmC 𝓤 H (W .laws) 𝓒) (known-fresh : Triple 𝓤 (𝓒 #search·fresh) (Fresh 𝓤 H A at-mem run)) (known : Triple 𝓤 (𝓒 #resume·resume) (Resume 𝓤 H A at-mem run)) where
+  module _ (𝓒 : Calls 𝓤 H) (Λ : Loops 𝓤 H) (fm : FmC 𝓤 H (W .laws) 𝓒) (known-fresh : Triple 𝓤 (𝓒 #checkpoint·fresh) (Fresh 𝓤 H A at-mem run)) (known : Triple 𝓤 (𝓒 #resume·resume) (Resume 𝓤 H A at-mem run)) where
     walk : Are (typesAt (start.signature .params) κs) (Ises (typesAt (start.signature .params) κs)) a vals → ent 𝓤 (onEntry 𝓤 H A start.signature κs qs a vals) (WpFn 𝓤 H 𝓒 Λ code.function (flat (typesAt (start.signature .params) κs) vals) Post)
     walk are =
         qed W (raw (toks 𝓤 A 2 κs qs) ∷ ‵ (owns (rows κs u8) a vals) ∷ []) ∵ move ! (1 ∷ []) $ use1 W (‵ (fsep (u8 .own m (uint-vals w8 m)) (others κs u8 a vals))) (fourth-out 𝓤 H A W κs u8 a vals) $ fsplit ! $
@@ -190,12 +190,12 @@ module _ {M : Type 1} (𝓤 : URA M) (H : Heap 𝓤) (A : Atoms 𝓤) (W : Given
         keep ! (1 ∷ 3 ∷ []) $ by ! (exits r′ (sixth ws) (e ∙ ap (callOf a) e₀) l (both-of r′ _ is is′))))))))))))))))))))))))))))))
 
 module _ {M : Type 1} (𝓤 : URA M) (H : Heap 𝓤) (A : Atoms 𝓤) (W : Given 𝓤 H A) (at-mem : Memory → SProp 𝓤) (run : Routine → Fun 𝓤) where
-  start-walks : (𝓒 : Calls 𝓤 H) (Λ : Loops 𝓤 H) → FmC 𝓤 H (W .laws) 𝓒 → Triple 𝓤 (𝓒 #search·fresh) (Fresh 𝓤 H A at-mem run) → Triple 𝓤 (𝓒 #resume·resume) (Resume 𝓤 H A at-mem run) → Walks 𝓤 H A start.ended stayed (WpFn 𝓤 H 𝓒 Λ code.function) (start.clauses 𝓤 H A at-mem run)
+  start-walks : (𝓒 : Calls 𝓤 H) (Λ : Loops 𝓤 H) → FmC 𝓤 H (W .laws) 𝓒 → Triple 𝓤 (𝓒 #checkpoint·fresh) (Fresh 𝓤 H A at-mem run) → Triple 𝓤 (𝓒 #resume·resume) (Resume 𝓤 H A at-mem run) → Walks 𝓤 H A start.ended stayed (WpFn 𝓤 H 𝓒 Λ code.function) (start.clauses 𝓤 H A at-mem run)
   start-walks 𝓒 Λ fm known-fresh known = walked 𝓤 H A start.ended stayed (start.clauses 𝓤 H A at-mem run) (WpFn 𝓤 H 𝓒 Λ code.function) spells
       (λ κs. (orders-tells, (tables-tells (named 0) (κs .0), (tables-tells (named 0) (κs .0), (uint-tells w8, (uint-tells w64, (λ x vs p. p .0 .0, tt)))))))
       (λ κs qs bounds a g are. via 𝓤 _ (fst∗ 𝓤 _ (emp 𝓤)) (walk 𝓤 H A W at-mem run κs qs a 𝓒 Λ fm known-fresh known are))
 
-  start-meets : (𝓣 : Tables 𝓤 H) → Triple 𝓤 (𝓣 .C #search·fresh) (Fresh 𝓤 H A at-mem run) → Triple 𝓤 (𝓣 .C #resume·resume) (Resume 𝓤 H A at-mem run) → Meets 𝓤 H A start.signature (WpFn 𝓤 H (𝓣 .C) (𝓣 .Λ) code.function) (start.spec 𝓤 H A at-mem run)
+  start-meets : (𝓣 : Tables 𝓤 H) → Triple 𝓤 (𝓣 .C #checkpoint·fresh) (Fresh 𝓤 H A at-mem run) → Triple 𝓤 (𝓣 .C #resume·resume) (Resume 𝓤 H A at-mem run) → Meets 𝓤 H A start.signature (WpFn 𝓤 H (𝓣 .C) (𝓣 .Λ) code.function) (start.spec 𝓤 H A at-mem run)
   start-meets 𝓣 known-fresh known = walk-meets 𝓤 H A start.ended stayed W
       (λ _ _ _ _ _. silent 𝓤 H A W, (λ _ _ _ _ _. silent 𝓤 H A W, (λ _ _ _ _ _. silent 𝓤 H A W, (λ _ _ _ _ _. silent 𝓤 H A W, (λ _ _ _ _ _. silent 𝓤 H A W, (goes-gave-slice 𝓤 H A W 2 1 tt (plain (λ _. u64)), tt))))))
       (start.clauses 𝓤 H A at-mem run) (WpFn 𝓤 H (𝓣 .C) (𝓣 .Λ) code.function) (WpFn-mono 𝓤 H (W .laws) 𝓣 code.function) (start-walks (𝓣 .C) (𝓣 .Λ) (fmOf 𝓤 H (W .laws) 𝓣) known-fresh known)
@@ -206,5 +206,5 @@ start-spec 𝓤 H 𝓜 𝓖 𝓡 =
     entered 𝓤 H (tripleOf 𝓤 H (𝓖 .A) start.signature (start.spec 𝓤 H (𝓖 .A) (𝓜 .mem) (𝓡 .run)))
     (tables 𝓤 H 𝓜 𝓡 code.env .C) (tables 𝓤 H 𝓜 𝓡 code.env .Λ) #resume·start code.function (code.unfolded 𝓤 H 𝓜 𝓡)
     (start-meets 𝓤 H (𝓖 .A) (givenOf 𝓤 H 𝓜 𝓖) (𝓜 .mem) (𝓡 .run) (tablesOf 𝓤 H 𝓜 (tables 𝓤 H 𝓜 𝓡 code.env))
-    (cited 𝓤 H (Fresh 𝓤 H (𝓖 .A) (𝓜 .mem) (𝓡 .run)) 𝓜 𝓡 code.env #search·fresh fresh-def.routine code.calls-search·checkpoint·Checkpoint·fresh (fresh-thm.met 𝓤 H 𝓜 𝓖 𝓡))
+    (cited 𝓤 H (Fresh 𝓤 H (𝓖 .A) (𝓜 .mem) (𝓡 .run)) 𝓜 𝓡 code.env #checkpoint·fresh fresh-def.routine code.calls-checkpoint·Checkpoint·fresh (fresh-thm.met 𝓤 H 𝓜 𝓖 𝓡))
     (cited 𝓤 H (Resume 𝓤 H (𝓖 .A) (𝓜 .mem) (𝓡 .run)) 𝓜 𝓡 code.env #resume·resume resume-def.routine code.calls-resume·resume (resume-thm.met 𝓤 H 𝓜 𝓖 𝓡)))

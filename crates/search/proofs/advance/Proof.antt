@@ -2,15 +2,17 @@
 -- ceiling there is that of the walk (`AdvancedCall`). Assumes nothing.
 use mathlib.Core.Path.{_≡_, refl, sym, _∙_}
 use native.Mathlib.Omega.{arith}
-use lib.ListN.{length, take, length-map}
+use lib.ListN.{length, length-map}
 use borrow.Author.Needs.{needs}
 use Rattle.problem.specs.Problem.{Problem}
 use Rattle.problem.specs.Lent.{lent}
-use Rattle.mapping.specs.Common.{size}
-use Rattle.search.specs.Walking.{Setting, AtNode, Ready, Visited}
-use Rattle.search.proofs.AdvancedCall.{Accepted, shape-reached, call-setting, call-bounds, call-node, visited-shape, call-arrives}
-use Rattle.search.proofs.ResumedWalk.{start-ready}
-use Rattle.search.proofs.StepTurn.{ready-in-bounds}
+use Rattle.search_tree.specs.Search.{searchOf}
+use Rattle.checkpoint.specs.Checkpoints.{stateOf}
+use Rattle.search.specs.Call.{visits}
+use Rattle.search.specs.Walking.{Setting, Arrives, Starts}
+use Rattle.search.proofs.AdvancedCall.{Accepted, call-setting, call-bounds, call-arrives}
+use Rattle.search.proofs.ResumedWalk.{start-count}
+use Rattle.search.proofs.VisitTurn.{ready-in-bounds}
 use Rattle.search.proofs.WordLevels.{root-words}
 use Rattle.search.proofs.advance.Statement.{statement}
 use Rattle.search.proofs.advance.Tie as tie
@@ -26,17 +28,21 @@ at-entry c = c .before .before .before .before .before
 abbrev at-masks : tie.After-root-words → tie.After-fill-masks
 at-masks c = c .before .before .before
 
-abbrev at-root : tie.After-rebuild → tie.After-root-words
-at-root c = c .before .before .before .before .before .before .before
+abbrev at-root : tie.After-all-later → tie.After-root-words
+at-root c = c .before .before .before
 
-abbrev at-rebuild : tie.After-visits → tie.After-rebuild
-at-rebuild c = c .before .before .before .before .before
+abbrev at-later : tie.After-start → tie.After-all-later
+at-later c = c .before .before .before .before
 
-abbrev at-visits : tie.After-start → tie.After-visits
-at-visits c = c .before .before .before .before
+abbrev at-start : tie.After-run → tie.After-start
+at-start c = c .before .before .before .before .before .before
 
-abbrev at-start : tie.After-ceiling → tie.After-start
-at-start c = c .before .before .before .before
+abbrev at-run : tie.After-ceiling → tie.After-run
+at-run c = c .before .before .before .before .before .before
+
+-- the function's entry, from the walk's start
+abbrev begin : tie.After-start → tie.Start
+begin c = at-entry (at-masks (at-root (at-later c)))
 
 -- what the call starts from; that its arrays have 64 bytes comes with the checkpoint's type
 given : (s : tie.Start) → Accepted (asked s) (s .args .checkpoint)
@@ -80,112 +86,93 @@ root-words-requires c κs =
     let new = pre .0 .new-sound in
     ((old .labels-length, new .labels-length), old .order-max, new .order-max, omega (arith, pre .1 .1 .0))
 
-slice-aggregate-rebuild : tie.Need-slice-aggregate-rebuild
-slice-aggregate-rebuild c = sym (at-masks (c .before .before .before .before) .fill-masks .ensures .words)
+all-later-requires : tie.Need-all-later-requires
+all-later-requires c κs = at-entry (at-masks (c .before .before)) .pre .0 .old-sound .edges-length
+
+slice-aggregate-start : tie.Need-slice-aggregate-start
+slice-aggregate-start c = sym (at-masks (at-root (c .before)) .fill-masks .ensures .words)
 
 -- the workspace keeps its length
 root-whole : (c : tie.After-root-words) → length (c .root-words .last .1 .1 .0) ≡ 4160
 root-whole c = c .root-words .kept .1 .1 .0 ∙ at-entry (at-masks c) .pre .1 .1 .0
 
-rebuild-requires : tie.Need-rebuild-requires
-rebuild-requires c κs =
-    let root = c .before .before .before .before .before .before in
-    let masks = at-masks root in
-    call-bounds (given (at-entry masks)) (masks .fill-masks .ensures) (omega (arith, root-whole root))
+start-requires : tie.Need-start-requires
+start-requires c κs =
+    let later = c .before .before .before in
+    let masks = at-masks (at-root later) in
+    let g = given (at-entry masks) in (
+      call-bounds g (masks .fill-masks .ensures) (later .all-later .ensures) (omega (arith, root-whole (at-root later))),
+      (g .incumbent-long, g .sound .old-sound .order-max),
+    )
 
-rebuild-whole : (c : tie.After-rebuild) → length (c .rebuild .last .1 .1 .1 .0) ≡ 4160
-rebuild-whole c = c .rebuild .kept .1 .1 .1 .0 ∙ root-whole (at-root c)
+-- the walk at its start is ready for a visit
+started : (c : tie.After-start)
+    → let s = begin c in Starts (asked s) (s .args .checkpoint) (c .start .result) (c .start .last .1 .1 .1 .1 .1 .0)
+started c =
+    let root = at-root (at-later c) in
+    let s = begin c in
+    c .start .ensures (asked s) (setting (at-masks root)) (s .pre .1 .0)
+    (root-words (asked s) (s .pre .0) (root .root-words .ensures (s .args .t3)) (s .args .checkpoint .path))
 
-slice-aggregate-visits : tie.Need-slice-aggregate-visits
-slice-aggregate-visits c = sym (at-masks (at-root (c .before .before .before)) .fill-masks .ensures .words)
+slice-aggregate-run : tie.Need-slice-aggregate-run
+slice-aggregate-run c = sym (at-masks (at-root (at-later (c .before .before .before))) .fill-masks .ensures .words)
 
--- the checkpoint is at a node once the words of its ancestors are rebuilt
-rebuilt : (c : tie.After-rebuild)
-    → let s = at-entry (at-masks (at-root c)) in let k = s .args .checkpoint in
-    AtNode (asked s) (k .path) (k .depth) (size (take (k .depth) (k .path))) (c .rebuild .last .1 .1 .1 .0)
-rebuilt c =
-    let masks = at-masks (at-root c) in
-    let s = at-entry masks in
-    call-node (given s) (omega (arith, rebuild-whole c))
-    (c .rebuild .ensures (asked s) (setting masks) (s .pre .1 .0 .depth-max) (shape-reached (given s))
-    (root-words (asked s) (s .pre .0) (at-root c .root-words .ensures (s .args .t3)) (s .args .checkpoint .path)))
-
-visits-requires : tie.Need-visits-requires
-visits-requires c κs =
-    let rebuild = c .before .before .before .before in
-    let masks = at-masks (at-root rebuild) in
-    let s = at-entry masks in (
+run-requires : tie.Need-run-requires
+run-requires c κs =
+    let start = c .before .before .before .before .before in
+    let later = at-later start in
+    let s = begin start in (
+      rw (started start .checkpoint-is) (start-count (s .args .checkpoint) (s .args .budget) (s .pre .1 .1 .1)),
       record {
         problem = asked s;
-        setting = setting masks;
-        shape = s .pre .1 .0;
-        node = rebuilt rebuild;
-        incumbent-length = given s .incumbent-long;
+        setting = setting (at-masks (at-root later));
+        later-are = later .all-later .ensures;
+        ready = started start .ready;
       },
-      s .pre .1 .1 .1,
     )
 
 -- the visits are made
-visited : (c : tie.After-visits)
-    → let s = at-entry (at-masks (at-root (at-rebuild c))) in
-    Visited (asked s) (s .args .budget) (s .args .checkpoint) (c .visits .last .1 .1 .1 .1 .1 .0) (c .visits .result)
-visited c =
-    let masks = at-masks (at-root (at-rebuild c)) in
-    let s = at-entry masks in
-    c .visits .ensures (asked s) (setting masks) (s .pre .1 .0) (rebuilt (at-rebuild c))
-
--- the last array of the checkpoint that the visits leave has 64 bytes too
-end-long : (c : tie.After-visits) → length (c .visits .result .incumbent) ≡ 64
-end-long c = simp length-map at (c .visits .ok .1 .1 .1 .1 .1 .1 .1 .1 .0 .1 .0 .1)
-
-start-requires : tie.Need-start-requires
-start-requires c κs =
-    let end = c .before .before .before in
-    let s = at-entry (at-masks (at-root (at-rebuild end))) in
-    (visited end .node .path-length, end-long end, visited-shape (given s) (visited end) .depth-max, s .pre .0 .old-sound .order-max)
+made : (c : tie.After-run)
+    → let start = at-start c in let s = begin start in let k = start .start .result .checkpoint in
+    Arrives (asked s) (k .minimum) (visits (searchOf (asked s)) (k .minimum) (s .args .budget) (stateOf (asked s .old .order) k)) (c .run .result)
+    (c .run .last .1 .1 .1 .1 .1 .1 .0)
+made c =
+    let start = at-start c in
+    c .run .ensures (asked (begin start)) (setting (at-masks (at-root (at-later start)))) (started start .ready)
 
 slice-aggregate-ceiling : tie.Need-slice-aggregate-ceiling
-slice-aggregate-ceiling c = sym (at-masks (at-root (at-rebuild (at-visits (c .before)))) .fill-masks .ensures .words)
-
--- the walk at the end is ready for a visit
-ready : (c : tie.After-start)
-    → let v = at-visits c in let end = v .visits .result in
-    Ready (asked (at-entry (at-masks (at-root (at-rebuild v))))) (end .minimum) (c .start .result) (end .path) (end .incumbent)
-    (v .visits .last .1 .1 .1 .1 .1 .0)
-ready c =
-    let v = at-visits c in
-    let masks = at-masks (at-root (at-rebuild v)) in
-    start-ready (setting masks) (visited-shape (given (at-entry masks)) (visited v)) (visited v .node) (end-long v) (c .start .ensures)
+slice-aggregate-ceiling c = sym (at-masks (at-root (at-later (at-start (c .before .before .before)))) .fill-masks .ensures .words)
 
 ceiling-requires : tie.Need-ceiling-requires
 ceiling-requires c κs =
-    let start = c .before .before .before in
-    ready-in-bounds (setting (at-masks (at-root (at-rebuild (at-visits start))))) (ready start)
+    let run = c .before .before .before .before .before in
+    let later = at-later (at-start run) in
+    (ready-in-bounds (setting (at-masks (at-root later))) (later .all-later .ensures) (made run .ready), made run .ready .small)
 
 ceiling-whole : (c : tie.After-ceiling) → length (c .ceiling .last .1 .1 .1 .1 .0) ≡ 4160
 ceiling-whole c =
-    let v = at-visits (at-start c) in
-    c .ceiling .kept .1 .1 .1 .1 .0 ∙ v .visits .kept .1 .1 .1 .1 .1 .0 ∙ rebuild-whole (at-rebuild v)
+    let run = at-run c in
+    let start = at-start run in
+    c .ceiling .kept .1 .1 .1 .1 .0 ∙ run .run .kept .1 .1 .1 .1 .1 .1 .0 ∙ start .start .kept .1 .1 .1 .1 .1 .0 ∙ root-whole (at-root (at-later start))
 
 clear-words-requires : tie.Need-clear-words-requires
 clear-words-requires c κs = omega (arith, ceiling-whole (c .before .before .before))
 
 same-length : tie.Need-same-length
 same-length c =
-    let top = c .before .before .before .before .before .before in
-    c .before .before .clear-words .kept .0 ∙ ceiling-whole top
-    ∙ sym (at-entry (at-masks (at-root (at-rebuild (at-visits (at-start top))))) .pre .1 .1 .0)
+    let top = c .before .before .before .before .before .before .before in
+    c .before .before .before .clear-words .kept .0 ∙ ceiling-whole top ∙ sym (begin (at-start (at-run top)) .pre .1 .1 .0)
 
 returns : tie.Need-returns
 returns c =
-    let top = c .before .before .before .before .before .before in
-    let start = at-start top in
-    let v = at-visits start in
-    let masks = at-masks (at-root (at-rebuild v)) in
+    let top = c .before .before .before .before .before .before .before in
+    let run = at-run top in
+    let start = at-start run in
+    let masks = at-masks (at-root (at-later start)) in
     let s = at-entry masks in
-    call-arrives (given s) (visited v) (s .args .workspace .now) (top .ceiling .last .1 .1 .1 .1 .0) (start .start .ensures)
-    (top .ceiling .ensures (asked s) (v .visits .result .minimum) (v .visits .result .incumbent) (setting masks) (ready start))
-    (s .pre .1 .1 .0) (ceiling-whole top) (c .before .before .clear-words .ensures)
+    call-arrives (given s) (s .args .budget) (top .ceiling .result) (s .args .workspace .now) (top .ceiling .last .1 .1 .1 .1 .0) (setting masks)
+    (started start .checkpoint-is) (started start .ready) (made run) (top .ceiling .ensures (asked s) (setting masks) (made run .ready))
+    (s .pre .1 .1 .0) (ceiling-whole top) (c .before .before .before .clear-words .ensures)
 
 pub advance-spec : {M : Type 1} → statement M
 advance-spec =
@@ -198,11 +185,11 @@ advance-spec =
     slice-aggregate-fill-masks
     fill-masks-requires
     root-words-requires
-    slice-aggregate-rebuild
-    rebuild-requires
-    slice-aggregate-visits
-    visits-requires
+    all-later-requires
+    slice-aggregate-start
     start-requires
+    slice-aggregate-run
+    run-requires
     slice-aggregate-ceiling
     ceiling-requires
     clear-words-requires

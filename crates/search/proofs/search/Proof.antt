@@ -9,11 +9,12 @@ use denote.Floats.{passes}
 use Rattle.answers.specs.Answer.{passed}
 use Rattle.problem.specs.Problem.{Problem}
 use Rattle.problem.specs.Lent.{lent}
-use Rattle.search.specs.Checking.{checkpointAnswer}
+use Rattle.checkpoint.specs.Checking.{checkpointAnswer}
 use Rattle.search.specs.Call.{countFits}
-use Rattle.search.specs.Answers.{calledOf, shapeAnswer}
+use Rattle.checkpoint.specs.Answers.{shapeAnswer}
+use Rattle.search.specs.Answers.{calledOf}
 use Rattle.search.proofs.CallRefusals.{call-refused, call-words, call-count, call-accepted, front-advanced}
-use Rattle.search.proofs.CheckpointPasses.{passes-shape}
+use Rattle.checkpoint.proofs.CheckpointPasses.{passes-shape}
 use Rattle.search.proofs.search.Statement.{statement}
 use Rattle.search.proofs.search.Tie as tie
 

@@ -2,7 +2,7 @@
 -- bounds are made in the level after it, which is not needed any more.
 -- Assumes nothing.
 use mathlib.Core.Path.{_≡_, refl}
-use Prim.Native.Nat.{ℕ, _+_, _-_}
+use Prim.Native.Nat.{ℕ, _+_, _-_, _<_}
 use native.Mathlib.Omega.{arith}
 use lib.ListN.{take}
 use borrow.Author.Needs.{needs}
@@ -13,11 +13,11 @@ use Rattle.search.proofs.ceiling.later_top.Statement.{statement}
 use Rattle.search.proofs.ceiling.later_top.Tie as tie
 
 abbrev Inv-loop : tie.InvT-loop
-Inv-loop edges masks path workspace₀ depth pairs least top₀ k₀ left₀ workspace top k left =
+Inv-loop edges masks later path workspace₀ depth pairs least top₀ k₀ left₀ workspace top k left =
     LevelsHead edges masks path workspace₀ workspace depth pairs least k left top
 
 abbrev μ-loop : tie.MeasureT-loop
-μ-loop edges masks path workspace₀ depth pairs least top₀ k₀ left₀ workspace top k left = k
+μ-loop edges masks later path workspace₀ depth pairs least top₀ k₀ left₀ workspace top k left = k
 
 -- the function's entry, from the loop's head
 abbrev entry : tie.At-loop Inv-loop μ-loop → tie.Start Inv-loop μ-loop
@@ -66,20 +66,28 @@ add-limit-2 c =
     let few = openRows-max (row head) (head .loop .left - 1) (head .loop .workspace) in
     omega (arith, pairs-left (c .before .before), start .pre, c .count-open .ensures, size-take-max (start .args .path .now) (row head))
 
-cast-row-top : tie.Need-cast-row-top Inv-loop μ-loop
-cast-row-top c =
-    let head = c .before .before .before .before .before .before .before in
-    omega (arith, entry-max (entry head .pre) (row head) (omega arith) (c .before .before .before .before .if1 .taken))
+mul-row-top : tie.Need-mul-row-top Inv-loop μ-loop
+mul-row-top c = search needs
+
+element-copy-out-row-top : tie.Need-element-copy-out-row-top Inv-loop μ-loop
+element-copy-out-row-top c = search needs
+
+cast-t32 : tie.Need-cast-t32 Inv-loop μ-loop
+cast-t32 c =
+    let head = c .before .before .before .before .before .before .before .before in
+    omega (arith, entry-max (entry head .pre) (row head) (omega arith) (c .before .before .before .before .before .if1 .taken))
 
 row-top-requires : tie.Need-row-top-requires Inv-loop μ-loop
 row-top-requires c κs =
-    let head = c .before .before .before .before .before .before .before in
-    let pre = entry head .pre in (
+    let head = c .before .before .before .before .before .before .before .before in
+    let pre = entry head .pre in
+    let inside : row head < 64 = omega (arith, pre .depth-max, head .loop .inv .k-max) in (
       (pre .edges-length, pre .masks-length, omega (arith, pre .room, head .loop .inv .kept .words)),
       (
-        omega (arith, pre .depth-max, head .loop .inv .k-max),
-        omega (arith, pairs-left (c .before .before .before .before), size-take-max (entry head .args .path .now) (row head)),
-        entry-max pre (row head) (omega arith) (c .before .before .before .before .if1 .taken),
+        inside,
+        omega (arith, pairs-left (c .before .before .before .before .before), size-take-max (entry head .args .path .now) (row head)),
+        entry-max pre (row head) (omega arith) (c .before .before .before .before .before .if1 .taken),
+        pre .later-are (row head) inside,
       ),
     )
 
@@ -88,8 +96,8 @@ loop-less c = search needs
 
 loop-again : tie.Need-loop-again Inv-loop μ-loop
 loop-again c =
-    let head = c .before .before .before .before .before .before .before .before .before .before .before in
-    let mapped = c .before .before .before .before .before .before .before .before .if1 .taken in
+    let head = c .before .before .before .before .before .before .before .before .before .before .before .before in
+    let mapped = c .before .before .before .before .before .before .before .before .before .if1 .taken in
     let own = c .before .before .before .row-top .ensures in
     level-counted (entry head .pre) (row head) (omega arith) (head .loop .inv) mapped (own .0) (own .1) refl (omega (arith, c .if3 .taken))
 
@@ -98,8 +106,8 @@ loop-less-2 c = search needs
 
 loop-again-2 : tie.Need-loop-again-2 Inv-loop μ-loop
 loop-again-2 c =
-    let head = c .before .before .before .before .before .before .before .before .before .before .before in
-    let mapped = c .before .before .before .before .before .before .before .before .if1 .taken in
+    let head = c .before .before .before .before .before .before .before .before .before .before .before .before in
+    let mapped = c .before .before .before .before .before .before .before .before .before .if1 .taken in
     let own = c .before .before .before .row-top .ensures in
     level-counted (entry head .pre) (row head) (omega arith) (head .loop .inv) mapped (own .0) (own .1) refl (omega (arith, c .if3 .left))
 
@@ -139,7 +147,9 @@ later-top-spec =
     add-limit
     count-open-requires
     add-limit-2
-    cast-row-top
+    mul-row-top
+    element-copy-out-row-top
+    cast-t32
     row-top-requires
     loop-less
     loop-again

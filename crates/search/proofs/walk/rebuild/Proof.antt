@@ -1,7 +1,7 @@
 -- `search::walk::rebuild` meets its contract: each row passed that took a new vertex is refined (`RebuildTurn`).
 -- Assumes nothing.
 use borrow.Author.Needs.{needs}
-use Prim.Native.Nat.{_-_}
+use Prim.Native.Nat.{_-_, _<_}
 use mathlib.Core.Logic.{⊎-elim}
 use native.Mathlib.Omega.{arith}
 use Rattle.search.proofs.NodeWords.{size-take-max, entry-max}
@@ -10,11 +10,11 @@ use Rattle.search.proofs.walk.rebuild.Statement.{statement}
 use Rattle.search.proofs.walk.rebuild.Tie as tie
 
 abbrev Inv-loop : tie.InvT-loop
-Inv-loop edges masks path workspace₀ depth row₀ pairs₀ workspace row pairs =
+Inv-loop edges masks later path workspace₀ depth row₀ pairs₀ workspace row pairs =
     RebuiltTo edges masks path depth workspace₀ workspace row pairs
 
 abbrev μ-loop : tie.MeasureT-loop
-μ-loop edges masks path workspace₀ depth row₀ pairs₀ workspace row pairs = depth - row
+μ-loop edges masks later path workspace₀ depth row₀ pairs₀ workspace row pairs = depth - row
 
 loop-holds : tie.Need-loop-holds Inv-loop μ-loop
 loop-holds c = rebuilt-none
@@ -25,28 +25,38 @@ add-loop c = search needs
 element-copy-out-value : tie.Need-element-copy-out-value Inv-loop μ-loop
 element-copy-out-value c = search needs
 
-cast-refine : tie.Need-cast-refine Inv-loop μ-loop
-cast-refine c =
-    let start = c .before .before .before .before .before .before .before .before in
-    omega (arith, entry-max (start .pre) (c .before .before .before .before .loop .row) (omega arith) (c .before .if1 .taken))
+mul-refine : tie.Need-mul-refine Inv-loop μ-loop
+mul-refine c = search needs
+
+element-copy-out-refine : tie.Need-element-copy-out-refine Inv-loop μ-loop
+element-copy-out-refine c = search needs
+
+cast-t23 : tie.Need-cast-t23 Inv-loop μ-loop
+cast-t23 c =
+    let head = c .before .before .before .before .before in
+    omega (arith, entry-max (head .before .before .before .before .pre) (head .loop .row) (omega arith) (c .before .before .if1 .taken))
 
 refine-requires : tie.Need-refine-requires Inv-loop μ-loop
 refine-requires c κs =
-    let start = c .before .before .before .before .before .before .before .before in
+    let head = c .before .before .before .before .before in
+    let start = head .before .before .before .before in
     let bounds = start .pre in
-    let l = c .before .before .before .before .loop in (
-      bounds .edges-length,
-      bounds .masks-length,
-      omega (arith, bounds .room, l .inv .kept-length),
-      omega (arith, bounds .depth-max),
-      omega (arith, l .inv .pairs-are, size-take-max (start .args .path .now) (l .row)),
-      entry-max bounds (l .row) (omega arith) (c .before .if1 .taken),
+    let l = head .loop in
+    let inside : l .row < 64 = omega (arith, bounds .depth-max) in (
+      (bounds .edges-length, bounds .masks-length, omega (arith, bounds .room, l .inv .kept-length)),
+      (
+        inside,
+        omega (arith, l .inv .pairs-are, size-take-max (start .args .path .now) (l .row)),
+        entry-max bounds (l .row) (omega arith) (c .before .before .if1 .taken),
+        bounds .later-are (l .row) inside,
+      ),
     )
 
 add-pairs : tie.Need-add-pairs Inv-loop μ-loop
 add-pairs c =
-    let start = c .before .before .before .before .before .before .before .before .before .before .before in
-    let l = c .before .before .before .before .before .before .before .loop in
+    let head = c .before .before .before .before .before .before .before .before in
+    let start = head .before .before .before .before in
+    let l = head .loop in
     omega (arith, l .inv .pairs-are, size-take-max (start .args .path .now) (l .row), start .fits)
 
 add-row : tie.Need-add-row Inv-loop μ-loop
@@ -61,8 +71,8 @@ loop-again c =
     let bounds = start .pre in
     let l = c .before .before .before .loop in
     ⊎-elim
-    (λ w. rw (w .5, w .6)
-    (rebuilt-taken (bounds .path-length) (bounds .depth-max) (omega arith) (w .0 .taken) (w .2 .ensures .0) (l .inv)))
+    (λ w. rw (w .6, w .7)
+    (rebuilt-taken (bounds .path-length) (bounds .depth-max) (omega arith) (w .0 .taken) (w .3 .ensures .whole (omega arith) .1) (l .inv)))
     (λ w. rw (w .1, w .2) (rebuilt-left-out (omega arith) (w .0 .left) (l .inv)))
     (c .if1 .came)
 
@@ -81,7 +91,9 @@ rebuild-spec =
     loop-holds
     add-loop
     element-copy-out-value
-    cast-refine
+    mul-refine
+    element-copy-out-refine
+    cast-t23
     refine-requires
     add-pairs
     add-row

@@ -1,12 +1,15 @@
 -- `search::walk::upper_bound` meets its contract: the rows counted are those of the node's own level, or of its parent's met with the
--- masks (`NodeWords`).
+-- masks, as far as they reach the cutoff (`NodeWords`).
 -- Assumes nothing.
-use mathlib.Core.Path.{ap, _∙_}
-use Prim.Native.Nat.{ℕ, _+_, _-_, _<_}
-use lib.ListN.{getD}
+use mathlib.Core.Path.{_≡_, ap, _∙_}
+use mathlib.Core.Logic.{_⊎_, ⊎-elim, inl, inr}
+use Prim.Native.Nat.{ℕ, _+_, _-_, _≤_, _<_}
+use lib.ListN.{getD, take}
 use native.Mathlib.Omega.{arith}
 use borrow.Author.Needs.{needs}
-use Rattle.search.proofs.NodeWords.{openRows-max, meetRows-max, size-take-max, pairs-max, entry-max, pairs-before, pairs-left-out, node-bound, node-root, node-left-out, node-taken, node-taken-bound}
+use Rattle.mapping.specs.Common.{size}
+use Rattle.search.proofs.NodeWords.{openRows-max, size-take-max, pairs-max, entry-max, pairs-before, pairs-left-out}
+use Rattle.search.proofs.NodeWords.{node-bound, node-root, node-left-out, node-bounded, node-taken-bounded, counted-max}
 use Rattle.search.proofs.walk.upper_bound.Statement.{statement}
 use Rattle.search.proofs.walk.upper_bound.Tie as tie
 
@@ -32,7 +35,7 @@ returns c =
       λ P setting node.
           let words = node-root setting node root in
           let few = pairs-max (start .pre) in
-          record { bound-is = ap (λ (n : ℕ). a .pairs + n) (c .count-open .ensures) ∙ node-bound setting node (omega arith) words; words = words },
+          node-bounded setting node (ap (λ (n : ℕ). a .pairs + n) (c .count-open .ensures) ∙ node-bound setting node (omega arith) words) words,
       omega (arith, start .pre, pairs-max (start .pre), c .count-open .ensures, openRows-max (a .depth) (a .pairs) (a .workspace .now)),
     )
 
@@ -69,53 +72,79 @@ returns-2 c =
       λ P setting node.
           let words = node-left-out setting node (omega arith) out in
           let few = few-left-out (c .before .before) in
-          record { bound-is = ap (λ (n : ℕ). a .pairs + n) (c .count-open2 .ensures) ∙ node-bound setting node few words; words = words },
+          node-bounded setting node (ap (λ (n : ℕ). a .pairs + n) (c .count-open2 .ensures) ∙ node-bound setting node few words) words,
       omega (arith, start .pre, pairs-max (start .pre), c .count-open2 .ensures, openRows-max (a .depth) (a .pairs) (a .workspace .now)),
     )
 
-sub-refine : tie.Need-sub-refine
-sub-refine c =
-    omega (arith, pairs-before (c .before .before .before .before .before .before .before .pre) (omega arith) (c .before .if2 .left))
+sub-need : tie.Need-sub-need
+sub-need c = search needs
 
-cast-refine : tie.Need-cast-refine
-cast-refine c =
-    omega (arith, entry-max (c .before .before .before .before .before .before .before .pre) (c .before .before .before .before .before .before .before .args .depth - 1) (omega arith) (c .before .if2 .left))
+mul-refine : tie.Need-mul-refine
+mul-refine c = search needs
+
+element-copy-out-refine : tie.Need-element-copy-out-refine
+element-copy-out-refine c = search needs
+
+-- the function's entry, from the count that is needed
+abbrev entry : tie.Joined3 → tie.Start
+entry c = c .before .before .before .before .before .before .before
+
+-- the row's parent has one pair less
+before : (c : tie.Joined3) → entry c .args .pairs ≡ size (take (entry c .args .depth - 1) (entry c .args .path .now)) + 1
+before c = pairs-before (entry c .pre) (omega arith) (c .before .if2 .left)
+
+sub-refine : tie.Need-sub-refine
+sub-refine c = omega (arith, before (c .before .before))
+
+-- the row took a vertex below 64
+value : (c : tie.Joined3) → getD (entry c .args .path .now) (entry c .args .depth - 1) 0 < 64
+value c = entry-max (entry c .pre) (entry c .args .depth - 1) (omega arith) (c .before .if2 .left)
+
+cast-t31 : tie.Need-cast-t31
+cast-t31 c = omega (arith, value (c .before .before))
 
 refine-requires : tie.Need-refine-requires
 refine-requires c κs =
-    let start = c .before .before .before .before .before .before .before in
-    let bounds = start .pre in
-    let a = start .args in
-    let before = pairs-before bounds (omega arith) (c .before .if2 .left) in (
-      bounds .edges-length,
-      bounds .masks-length,
-      bounds .room,
-      omega (arith, bounds .depth-max),
-      omega (arith, size-take-max (a .path .now) (a .depth - 1)),
-      entry-max bounds (a .depth - 1) (omega arith) (c .before .if2 .left),
+    let joined = c .before .before in
+    let bounds = entry joined .pre in
+    let a = entry joined .args in
+    let row : a .depth - 1 < 64 = omega (arith, bounds .depth-max) in (
+      (bounds .edges-length, bounds .masks-length, bounds .room),
+      (
+        row,
+        omega (arith, before joined, size-take-max (a .path .now) (a .depth - 1)),
+        value joined,
+        bounds .later-are (a .depth - 1) row,
+      ),
     )
 
+-- so many rows are needed as the pairs lack to the cutoff
+asked : (c : tie.Joined3) → ((entry c .args .pairs < entry c .args .cutoff) × (c .if3 .need ≡ entry c .args .cutoff - entry c .args .pairs))
+    ⊎ ((entry c .args .cutoff ≤ entry c .args .pairs) × (c .if3 .need ≡ 0))
+asked c = ⊎-elim (λ w. inl (w .0 .taken, w .1)) (λ w. inr (w .0 .left, w .1)) (c .if3 .came)
+
+-- the bound is below the cutoff, or small
+sum-max : (c : tie.After-refine) → let joined = c .before .before .before in
+    (entry joined .args .pairs + c .refine .result < entry joined .args .cutoff) ⊎ (entry joined .args .pairs + c .refine .result ≤ 128)
+sum-max c =
+    let joined = c .before .before .before in
+    let bounds = entry joined .pre in
+    let few = pairs-max bounds in
+    ⊎-elim (λ less. ⊎-elim (λ some. inl (omega arith)) (λ none. absurd (omega arith)) (asked joined))
+    (λ small. inr (omega (arith, bounds .depth-max))) (counted-max (c .refine .ensures))
+
 add-result-3 : tie.Need-add-result-3
-add-result-3 c =
-    let start = c .before .before .before .before .before .before .before .before .before .before in
-    let a = start .args in
-    omega (arith, pairs-max (start .pre), start .pre .depth-max, meetRows-max (a .edges .now) (a .masks .now) (a .depth - 1) (a .pairs - 1) (getD (a .path .now) (a .depth - 1) 0) (a .workspace .now))
+add-result-3 c = ⊎-elim (λ less. omega arith) (λ small. omega arith) (sum-max (c .before .before))
 
 same-length-3 : tie.Need-same-length-3
 same-length-3 c = search needs
 
 returns-3 : tie.Need-returns-3
 returns-3 c =
-    let start = c .before .before .before .before .before .before .before .before .before .before in
-    let a = start .args in
-    let mapped = c .before .before .before .before .if2 .left in
-    let made = c .before .before .refine .ensures in
-    let count = made .1 in (
-      λ P setting node. record {
-        bound-is = ap (λ (n : ℕ). a .pairs + n) count ∙ node-taken-bound setting node (omega arith) mapped;
-        words = node-taken setting node (omega arith) mapped (made .0);
-      },
-      omega (arith, start .pre, pairs-max (start .pre), count, meetRows-max (a .edges .now) (a .masks .now) (a .depth - 1) (a .pairs - 1) (getD (a .path .now) (a .depth - 1) 0) (a .workspace .now)),
+    let call = c .before .before in
+    let joined = call .before .before .before in (
+      λ P setting node. node-taken-bounded setting node (omega arith) (joined .before .if2 .left) (asked joined) (call .refine .ensures),
+      ⊎-elim (λ less. omega arith) (λ small. omega arith) (sum-max call),
     )
 
 pub upper-bound-spec : {M : Type 1} → statement M
@@ -132,8 +161,11 @@ upper-bound-spec =
     add-result-2
     same-length-2
     returns-2
+    sub-need
+    mul-refine
+    element-copy-out-refine
     sub-refine
-    cast-refine
+    cast-t31
     refine-requires
     add-result-3
     same-length-3

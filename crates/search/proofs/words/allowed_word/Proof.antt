@@ -1,9 +1,9 @@
 -- `search::words::allowed_word` meets its contract: the word holds the vertices passed that the row may lie on.
 -- Assumes nothing.
-use mathlib.Core.Path.{_≡_, sym, ap, _∙_}
+use mathlib.Core.Path.{_≡_, ap, _∙_}
 use mathlib.Core.Bool.{Bool}
 use mathlib.Core.Logic.{⊎-elim}
-use mathlib.Core.List.{List, []}
+use mathlib.Core.List.{[]}
 use Prim.Native.Nat.{ℕ, _-_, _≤_}
 use native.Mathlib.Omega.{arith}
 use borrow.Author.Needs.{needs}
@@ -20,10 +20,10 @@ abbrev agrees : Tables → ℕ → ℕ → Bool
 agrees labels row = compareVertices (lent [] labels []) row
 
 abbrev Inv-loop : tie.InvT-loop
-Inv-loop labels row order new label word₀ v₀ word v = (v ≤ order) × (word ≡ setOf v (agrees labels row))
+Inv-loop labels order new at label word₀ v₀ word v = (v ≤ order) × (word ≡ setOf v (agrees labels at))
 
 abbrev μ-loop : tie.MeasureT-loop
-μ-loop labels row order new label word₀ v₀ word v = order - v
+μ-loop labels order new at label word₀ v₀ word v = order - v
 
 array-read-order : tie.Need-array-read-order Inv-loop μ-loop
 array-read-order c = search needs
@@ -57,7 +57,7 @@ loop-again : tie.Need-loop-again Inv-loop μ-loop
 loop-again c =
     let l = c .before .before .before .loop in
     let a = c .before .before .before .before .before .before .before .args in
-    let t = agrees (a .t2) (a .row) in (
+    let t = agrees (a .t2) (a .row .0) in (
       omega arith,
       ⊎-elim
           (λ w. w .2 ∙ w .1 .ensures ∙ ap (λ (s : ℕ). insert s (l .v)) (l .inv .1) ∙ setOf-add t (l .v) (omega arith) (eq-eqb _ _ (w .0 .taken)))
@@ -72,8 +72,8 @@ returns c edges =
     let a = start .args in
     let all : c .before .loop .v ≡ lent (a .t1) [] [] .new .order = omega arith in
     c .before .loop .inv .1
-    ∙ ap (λ (k : ℕ). setOf k (agrees (a .t2) (a .row))) all
-    ∙ setOf-within (lent (a .t1) [] [] .new .order) (agrees (a .t2) (a .row)) (start .pre .1)
+    ∙ ap (λ (k : ℕ). setOf k (agrees (a .t2) (a .row .0))) all
+    ∙ setOf-within (lent (a .t1) [] [] .new .order) (agrees (a .t2) (a .row .0)) (start .pre .1)
 
 pub allowed-word-spec : {M : Type 1} → statement M
 allowed-word-spec =

@@ -32,13 +32,13 @@ shared-slice-read-result c = search needs
 
 returns : tie.Need-returns
 returns c =
-    let a = c .before .before .before .before .before .args in
-    sym (word-open (a .workspace .now) (a .pairs) (a .row) (sym (c .before .before .has .ensures) ∙ c .before .if1 .taken))
+    let a = c .before .before .before .before .before .before .args in
+    sym (word-open (a .workspace .now) (a .pairs) (a .row .0) (sym (c .before .before .before .has .ensures) ∙ c .before .before .if1 .taken))
 
 returns-2 : tie.Need-returns-2
 returns-2 c =
     let a = c .before .before .before .before .args in
-    sym (word-closed (a .workspace .now) (a .pairs) (a .row) (sym (c .before .has .ensures) ∙ c .if1 .left))
+    sym (word-closed (a .workspace .now) (a .pairs) (a .row .0) (sym (c .before .has .ensures) ∙ c .if1 .left))
 
 pub level-word-spec : {M : Type 1} → statement M
 level-word-spec =

@@ -13,10 +13,10 @@ use Rattle.search.proofs.words.mask_row.Statement.{statement}
 use Rattle.search.proofs.words.mask_row.Tie as tie
 
 abbrev Inv-loop : tie.InvT-loop
-Inv-loop order edges w masks₀ v₀ masks v = MaskedTo (graph order [] edges) w v masks₀ masks
+Inv-loop order edges masks₀ w v₀ masks v = MaskedTo (graph order [] edges) w v masks₀ masks
 
 abbrev μ-loop : tie.MeasureT-loop
-μ-loop order edges w masks₀ v₀ masks v = order - v
+μ-loop order edges masks₀ w v₀ masks v = order - v
 
 loop-holds : tie.Need-loop-holds Inv-loop μ-loop
 loop-holds c = masked-none _ _ _ (c .before .before .pre .1)
@@ -32,7 +32,7 @@ shared-slice-read-label c = search needs
 
 -- an edge's label is a byte
 label-byte : (c : tie.After-shared-slice-known2 Inv-loop μ-loop)
-    → getD (c .before .before .before .before .before .before .args .edges .now) (64 * c .before .before .before .before .before .before .args .w + c .before .before .before .loop .v) 0 < 256
+    → getD (c .before .before .before .before .before .before .args .edges .now) (64 * c .before .before .before .before .before .before .args .vertex .0 + c .before .before .before .loop .v) 0 < 256
 label-byte c = c .shared-slice-known2 .given _ .fits
 
 cast-label : tie.Need-cast-label Inv-loop μ-loop
@@ -72,7 +72,7 @@ loop-again c =
     let start = c .before .before .before .before .before in
     ⊎-elim
     (λ w.
-    let byte = w .1 .given (64 * start .args .w + l .v) .fits in
+    let byte = w .1 .given (64 * start .args .vertex .0 + l .v) .fits in
     rw (w .4) (masked-more _ _ _ _ _ _ _ h (start .pre .0 .2) (w .0 .taken) byte (omega arith) refl (w .3 .ensures) (l .inv)))
     (λ w. rw (w .1) (masked-self _ _ _ _ _ h (w .0 .left) (l .inv)))
     (c .if1 .came)

@@ -1,0 +1,102 @@
+-- With room for 270 bytes, or for the 64 of a mapping, the number 13 does not occur, so that no visit is lost for want of it.
+use mathlib.Core.Path.{_≡_, refl, ap}
+use mathlib.Core.Bool.{cond}
+use mathlib.Core.List.{List}
+use Prim.Native.Nat.{ℕ, _≤_}
+use native.Mathlib.Omega.{arith}
+use lib.ListN.{length, length-take}
+use borrow.Author.Tests.{le-leb}
+use Rattle.answers.specs.Answer.{Answer, passed, accepted, refused, refusedAt, refusalNumber}
+use Rattle.answers.specs.Output.{writeIf}
+use Rattle.answers.proofs.RefusalNumbers.{Plain}
+use Rattle.problem.specs.Problem.{Problem}
+use Rattle.problem_reader.specs.ProblemReading.{ReadOutcome, read, refusal, readProblem}
+use Rattle.problem_reader.proofs.ReadProblem.{Refusing, outcome-refusing}
+use Rattle.checkpoint.specs.declared.Checkpoint.{Checkpoint}
+use Rattle.checkpoint.specs.Checkpoints.{freshCheckpoint}
+use Rattle.checkpoint.specs.Checking.{checkpointAnswer}
+use Rattle.checkpoint.proofs.CheckpointPasses.{passes-shape, checkpoint-plain}
+use Rattle.checkpoint_bytes.specs.Saving.{checkpointBytes, maxBytes, saving}
+use Rattle.checkpoint_bytes.specs.Loading.{loading}
+use Rattle.checkpoint_bytes.specs.FaultPlace.{Bytes}
+use Rattle.checkpoint_bytes.proofs.CalledSized.{called-in-shape}
+use Rattle.checkpoint_bytes.proofs.LoadAccepts.{load-in-shape}
+use Rattle.checkpoint_bytes.proofs.LoadedSized.{load-sized}
+use Rattle.checkpoint_bytes.proofs.SavedBytes.{incumbent-few, saved-max}
+use Rattle.replies.specs.Resumed.{Resumed}
+use Rattle.replies.specs.ReadOut.{heldIn, readCheckpoint, readLoaded, readBytes}
+use Rattle.c_api.specs.Calls.{startOn, starting, resuming}
+use Rattle.c_api.specs.ReadOut.{readOutOn, readingOut}
+use Rattle.c_api.specs.ResumedCall.{ResumedCall, refused as turned, short, advanced}
+use Rattle.c_api.proofs.RefusalNumbers.{loading-plain}
+use Rattle.c_api.proofs.ResumedCall.{resume-goes}
+
+-- a save is not refused with 13 where there is room for 270 bytes
+save-fits : (P : Problem) (c : Checkpoint) (buffer : List ℕ) → maxBytes ≤ length buffer → refusalNumber (saving P c buffer .answer) ≡ 13 → ⊥
+unfolding saving
+save-fits P c buffer room = go (checkpointAnswer P c) refl (checkpoint-plain P c)
+  where
+    go : (a : Answer) → checkpointAnswer P c ≡ a → Plain a
+        → refusalNumber (writeIf a (checkpointBytes (P .old .order) c) buffer .answer) ≡ 13 → ⊥
+    go passed e h z =
+        let fine = passes-shape P c e in
+        let fits : length (checkpointBytes (P .old .order) c) ≤ length buffer = omega (arith, saved-max P (fine .0) c (fine .1), room) in
+        let none : _≡_ {A = ℕ} 0 13 = simp (le-leb _ _ fits) at z in
+        omega arith
+    go (accepted n) e h z = absurd h
+    go (refused n) e h z = omega (arith, h .2)
+    go (refusedAt n at) e h z = omega (arith, h .2)
+
+module _ (old new : List ℕ) where
+  module _ (minimum : ℕ) (buffer : List ℕ) where
+    -- A search is started in any buffer of 270 bytes.
+    pub start-fits : maxBytes ≤ length buffer → starting old new minimum buffer .reply .number ≡ 13 → ⊥
+    unfolding starting
+    start-fits room = go (readProblem old new) (outcome-refusing old new)
+      where
+        go : (g : ReadOutcome) → Refusing g → startOn g minimum buffer .reply .number ≡ 13 → ⊥
+        go (read P) h z = save-fits P (freshCheckpoint minimum) buffer room z
+        go (refusal a) h z = omega (arith, h .2)
+
+  -- The visits of a resumed search are always saved into a buffer of 270 bytes.
+  pub no-visit-lost : (bytes : List ℕ) → Bytes bytes → (budget : ℕ) (workspace next : List ℕ) → maxBytes ≤ length next
+      → resuming old new bytes budget workspace next .reply .number ≡ 13 → ⊥
+  no-visit-lost bytes small budget workspace next room = go (resuming old new bytes budget workspace next) (resume-goes old new bytes budget workspace next small)
+    where
+      go : (r : Resumed) → ResumedCall old new bytes budget workspace next r → r .reply .number ≡ 13 → ⊥
+      go r (turned some never) z = never z
+      go r (short s) z =
+          let P = s .searched .graphs in
+          let found = load-in-shape P bytes (s .searched .loaded) in
+          let sized = load-sized P bytes small (s .searched .loaded) in
+          let left = called-in-shape P _ sized (record { budget = budget; workspace = workspace }) (found .1) in
+          omega (arith, s .too-short, room, saved-max P (found .0) _ left)
+      go r (advanced a) z = omega (arith, a .number)
+
+  -- A held mapping always fits into 64 bytes.
+  pub read-out-fits : (bytes mapping : List ℕ) → 64 ≤ length mapping → readingOut old new bytes mapping .reply .number ≡ 13 → ⊥
+  unfolding readingOut readBytes readCheckpoint
+  read-out-fits bytes mapping room = go (readProblem old new) (outcome-refusing old new)
+    where
+      read-fits : (P : Problem) (a : Answer) → loading P bytes .answer ≡ a → Plain a
+          → readLoaded P (record { answer = a; checkpoint = loading P bytes .checkpoint }) mapping .reply .number ≡ 13 → ⊥
+      read-fits P passed e h z =
+          let c = loading P bytes .checkpoint in
+          let sound = load-in-shape P bytes e .0 in
+          let fits : length (heldIn P c) ≤ length mapping =
+          omega (
+            arith,
+            length-take (cond (c .holds) (P .old .order) 0) (c .incumbent),
+            incumbent-few (P .old .order) (c .holds),
+            sound .old-sound .order-max,
+            room,
+          ) in
+          let none : _≡_ {A = ℕ} 0 13 = simp (le-leb _ _ fits) at z in
+          omega arith
+      read-fits P (accepted n) e h z = absurd h
+      read-fits P (refused n) e h z = omega (arith, h .2)
+      read-fits P (refusedAt n at) e h z = omega (arith, h .2)
+
+      go : (g : ReadOutcome) → Refusing g → readOutOn g bytes mapping .reply .number ≡ 13 → ⊥
+      go (read P) h z = read-fits P (loading P bytes .answer) refl (loading-plain P bytes) z
+      go (refusal a) h z = omega (arith, h .2)

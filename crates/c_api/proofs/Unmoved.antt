@@ -1,0 +1,92 @@
+-- A refused call leaves what was lent as it was, whatever its length and whatever else was lent.
+use mathlib.Core.Path.{_≡_, refl}
+use mathlib.Core.List.{List}
+use Prim.Native.Nat.{ℕ, _≤_}
+use native.Mathlib.Omega.{arith}
+use lib.Dec.{leb}
+use lib.ListN.{length}
+use Rattle.answers.specs.Answer.{Answer, passed, accepted, refused, refusedAt, refusalNumber}
+use Rattle.answers.specs.Output.{Writing}
+use Rattle.answers.proofs.Choice.{either}
+use Rattle.problem.specs.Problem.{Problem}
+use Rattle.problem_reader.specs.ProblemReading.{ReadOutcome, read, refusal, readProblem}
+use Rattle.checkpoint.specs.Checkpoints.{freshCheckpoint}
+use Rattle.search.specs.Call.{Called, searchCall}
+use Rattle.checkpoint_bytes.specs.Saving.{saving}
+use Rattle.checkpoint_bytes.specs.Loading.{Loading, loading}
+use Rattle.replies.specs.Reply.{reply}
+use Rattle.replies.specs.Resumed.{Resumed, resumed, notResumed, whenAccepted, saveOn, searchFrom, loadOn, resumeFrom}
+use Rattle.replies.specs.ReadOut.{ReadOut, heldIn, readCheckpoint, readLoaded, readBytes}
+use Rattle.replies.proofs.CallKept.{Ways, Positive, save-kept}
+use Rattle.c_api.specs.Calls.{startOn, starting, resumeOn, resuming}
+use Rattle.c_api.specs.ReadOut.{readOutOn, readingOut}
+
+module _ (old new : List ℕ) where
+  pub start-unmoved : (minimum : ℕ) (buffer : List ℕ) → 1 ≤ starting old new minimum buffer .reply .number
+      → starting old new minimum buffer .checkpoint ≡ buffer
+  unfolding starting
+  start-unmoved minimum buffer = go (readProblem old new)
+    where
+      on-save : (P : Problem) (a : Answer) → Ways Positive (Unit {0}) (saving P (freshCheckpoint minimum) buffer .buffer ≡ buffer) a
+          → 1 ≤ refusalNumber a → saving P (freshCheckpoint minimum) buffer .buffer ≡ buffer
+      on-save P passed h z = absurd h
+      on-save P (accepted n) h z = absurd (omega arith)
+      on-save P (refused n) h z = h .1
+      on-save P (refusedAt n at) h z = h .1
+
+      go : (g : ReadOutcome) → 1 ≤ startOn g minimum buffer .reply .number → startOn g minimum buffer .checkpoint ≡ buffer
+      go (read P) z = on-save P (saving P (freshCheckpoint minimum) buffer .answer) (save-kept P (freshCheckpoint minimum) buffer) z
+      go (refusal a) z = refl
+
+  pub resume-unmoved : (bytes : List ℕ) (budget : ℕ) (workspace next : List ℕ)
+      → let r = resuming old new bytes budget workspace next in 1 ≤ r .reply .number → (r .workspace ≡ workspace) × (r .next ≡ next)
+  unfolding resuming resumeFrom searchFrom
+  resume-unmoved bytes budget workspace next = on-graphs (readProblem old new)
+    where
+      Keeps : Resumed → Type 0
+      Keeps r = 1 ≤ r .reply .number → (r .workspace ≡ workspace) × (r .next ≡ next)
+
+      on-save : (q : Called) (ceiling : ℕ) (w : Writing) (a : Answer)
+          → Keeps (whenAccepted a (λ count. resumed (reply 0 count) ceiling (q .workspace) (w .buffer)) (notResumed workspace next))
+      on-save q ceiling w passed z = (refl, refl)
+      on-save q ceiling w (accepted count) z = absurd (omega arith)
+      on-save q ceiling w (refused n) z = (refl, refl)
+      on-save q ceiling w (refusedAt n at) z = (refl, refl)
+
+      on-search : (P : Problem) (q : Called) (a : Answer)
+          → Keeps (saveOn P (record { answer = a; checkpoint = q .checkpoint; workspace = q .workspace }) workspace next)
+      on-search P q passed z = (refl, refl)
+      on-search P q (accepted ceiling) z =
+          let w = saving P (q .checkpoint) next in on-save q ceiling w (w .answer) z
+      on-search P q (refused n) z = (refl, refl)
+      on-search P q (refusedAt n at) z = (refl, refl)
+
+      on-load : (P : Problem) (l : Loading) (a : Answer)
+          → Keeps (loadOn P (record { answer = a; checkpoint = l .checkpoint }) budget workspace next)
+      on-load P l passed z = let q = searchCall P (l .checkpoint) budget workspace in on-search P q (q .answer) z
+      on-load P l (accepted n) z = (refl, refl)
+      on-load P l (refused n) z = (refl, refl)
+      on-load P l (refusedAt n at) z = (refl, refl)
+
+      on-graphs : (g : ReadOutcome) → Keeps (resumeOn g bytes budget workspace next)
+      on-graphs (read P) z = on-load P (loading P bytes) (loading P bytes .answer) z
+      on-graphs (refusal a) z = (refl, refl)
+
+  pub read-out-unmoved : (bytes mapping : List ℕ) → 1 ≤ readingOut old new bytes mapping .reply .number
+      → readingOut old new bytes mapping .mapping ≡ mapping
+  unfolding readingOut readBytes readCheckpoint
+  read-out-unmoved bytes mapping = on-graphs (readProblem old new)
+    where
+      Keeps : ReadOut → Type 0
+      Keeps r = 1 ≤ r .reply .number → r .mapping ≡ mapping
+
+      on-load : (P : Problem) (l : Loading) (a : Answer) → Keeps (readLoaded P (record { answer = a; checkpoint = l .checkpoint }) mapping)
+      on-load P l passed z =
+          either Keeps (leb (length (heldIn P (l .checkpoint))) (length mapping)) (λ y. absurd (omega arith)) (λ y. refl) z
+      on-load P l (accepted n) z = refl
+      on-load P l (refused n) z = refl
+      on-load P l (refusedAt n at) z = refl
+
+      on-graphs : (g : ReadOutcome) → Keeps (readOutOn g bytes mapping)
+      on-graphs (read P) z = on-load P (loading P bytes) (loading P bytes .answer) z
+      on-graphs (refusal a) z = refl

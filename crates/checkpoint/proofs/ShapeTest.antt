@@ -1,0 +1,172 @@
+-- The test of a checkpoint's shape passes exactly on checkpoints in shape.
+use mathlib.Core.Path.{_≡_, refl, sym, ap, _∙_}
+use mathlib.Core.Logic.{_↔_, _⊎_, inl, inr, ⊎-elim, Iff·trans}
+use mathlib.Core.Bool.{Bool, true, false, not, _&&_, _||_, Bool·beq, and-eq-true-iff, true≢false, false≢true}
+use mathlib.Core.List.{List}
+use Prim.Native.Nat.{ℕ, _≤_, _<_}
+use native.Mathlib.Decide.{decLt}
+use native.Mathlib.Omega.{arith}
+use lib.Dec.{leb, ltb, eqb}
+use lib.ListN.{getD, take}
+use borrow.Author.Tests.{ltb-true, leb-true, eqb-true, eqb-false, lt-ltb, le-leb, eq-eqb}
+use Rattle.bounded.specs.Below.{allBelow}
+use Rattle.bounded.proofs.AllBelow.{allBelow-true, true-allBelow}
+use Rattle.problem.specs.Problem.{Problem, SoundProblem}
+use Rattle.mapping.specs.Common.{Common, unmapped, size}
+use Rattle.mapping.specs.Answers.{Outcome, accepted, refused, refusedRow, refusedRows}
+use Rattle.mapping.specs.Check.{listOutcome, checkOutcome}
+use Rattle.problem.proofs.ProblemPasses.{problem-passes}
+use Rattle.mapping.proofs.CheckPasses.{common-passes, passes-common}
+use Rattle.search_tree.specs.Rules.{rulesOf}
+use Rattle.search_tree.specs.Node.{candidate}
+use Rattle.checkpoint.specs.declared.Checkpoint.{Checkpoint}
+use Rattle.checkpoint.specs.Checkpoints.{InShape, reaches, pathFits, restFits, inShape}
+
+-- what a test says: it passes exactly when A holds
+abbrev pub Tells : Bool → Type 0 → Type 0
+Tells t A = (t ≡ true) ↔ A
+
+tells-le : (a b : ℕ) → Tells (leb a b) (a ≤ b)
+tells-le a b = (leb-true a b, le-leb a b)
+
+tells-lt : (a b : ℕ) → Tells (ltb a b) (a < b)
+tells-lt a b = (ltb-true a b, lt-ltb a b)
+
+-- An equality test says that the numbers are equal.
+pub tells-eq : (a b : ℕ) → Tells (eqb a b) (a ≡ b)
+tells-eq a b = (eqb-true a b, eq-eqb a b)
+
+-- A test says of itself that it passes.
+pub tells-itself : (a : Bool) → Tells a (a ≡ true)
+tells-itself a = (λ e. e, λ e. e)
+
+tells-not : (a : Bool) → Tells (not a) (a ≡ false)
+tells-not true = (λ e. absurd (false≢true e), λ e. absurd (true≢false e))
+tells-not false = (λ e. refl, λ e. refl)
+
+tells-both : {A B : Type 0} (a b : Bool) → Tells a A → Tells b B → Tells (a && b) (A × B)
+tells-both a b l r = (
+  λ e. let both = and-eq-true-iff a b .0 e in (l .0 (both .0), r .0 (both .1)),
+  λ h. and-eq-true-iff a b .1 (l .1 (h .0), r .1 (h .1)),
+)
+
+-- One of two tests says that one of the two statements holds.
+pub tells-one : {A B : Type 0} (a b : Bool) → Tells a A → Tells b B → Tells (a || b) (A ⊎ B)
+tells-one true b l r = (λ e. inl (l .0 refl), λ h. refl)
+tells-one false b l r = (λ e. inr (r .0 e), ⊎-elim (λ x. absurd (false≢true (l .1 x))) (λ y. r .1 y))
+
+tells-same : {A B : Type 0} (a b : Bool) → Tells a A → Tells b B → Tells (Bool·beq a b) (A ↔ B)
+tells-same true true l r = (λ e. (λ x. r .0 refl, λ y. l .0 refl), λ h. refl)
+tells-same true false l r = (λ e. absurd (false≢true e), λ h. absurd (false≢true (r .1 (h .0 (l .0 refl)))))
+tells-same false true l r = (λ e. absurd (false≢true e), λ h. absurd (false≢true (l .1 (h .1 (r .0 refl)))))
+tells-same false false l r = (λ e. (λ x. absurd (false≢true (l .1 x)), λ y. absurd (false≢true (r .1 y))), λ h. refl)
+
+-- A test of all numbers below n says that each has what its own test says.
+pub tells-all : {A : ℕ → Type 0} (n : ℕ) (t : ℕ → Bool) → ((k : ℕ) → Tells (t k) (A k)) → Tells (allBelow n t) ((k : ℕ) → k < n → A k)
+tells-all n t each = (λ e k h. each k .0 (allBelow-true n t e k h), λ h. true-allBelow n t (λ k l. each k .1 (h k l)))
+
+reached-number : (k : ℕ) (o : Outcome) → reaches k o ≡ true → (n : ℕ) × (o ≡ accepted n) × (k ≤ n)
+reached-number k (accepted n) e = (n, refl, leb-true k n e)
+reached-number k (refused n) e = absurd (false≢true e)
+reached-number k (refusedRow n r) e = absurd (false≢true e)
+reached-number k (refusedRows n r s) e = absurd (false≢true e)
+
+-- what the tests say, in their order
+abbrev Clauses : Problem → Checkpoint → Type 0
+Clauses P c =
+    ((((c .depth ≤ P .old .order)
+    × ((k : ℕ) → k < c .depth → (getD (c .path) k 0 ≡ unmapped) ⊎ (candidate (rulesOf P) (take k (c .path)) k (getD (c .path) k 0) ≡ true)))
+    × ((c .holds ≡ false) ⊎ (Common P (take (P .old .order) (c .incumbent)) × (c .minimum ≤ size (take (P .old .order) (c .incumbent))))))
+    × ((((c .finished ≡ false) ⊎ (c .depth ≡ 0))
+    × ((c .steps ≡ 0) ↔ ((c .finished ≡ false) × (c .depth ≡ 0))))
+    × ((eqb (c .steps) 0 ≡ false) ⊎ (c .holds ≡ false))))
+    × ((i : ℕ) → i < 64
+    → ((i < c .depth) ⊎ (getD (c .path) i 0 ≡ 0)) × (((c .holds ≡ true) × (i < P .old .order)) ⊎ (getD (c .incumbent) i 0 ≡ 0)))
+
+clauses-shape : (P : Problem) (c : Checkpoint) → Clauses P c → InShape P c
+clauses-shape P c x = record {
+  depth-max = x .0 .0 .0 .0;
+  entry = x .0 .0 .0 .1;
+  incumbent-common = λ e. held e .0;
+  incumbent-reaches = λ e. held e .1;
+  finished-root = λ e. ⊎-elim (λ f. absurd (true≢false (sym e ∙ f))) (λ root. root) (x .0 .1 .0 .0);
+  unmoved = λ e. let start = x .0 .1 .0 .1 .0 e in (start .0, start .1, ⊎-elim (λ ne. absurd (eqb-false (c .steps) 0 ne e)) (λ f. f) (x .0 .1 .1));
+  moved = λ f root. x .0 .1 .0 .1 .1 (f, root);
+  path-rest = λ i h l. ⊎-elim (λ early. absurd (omega arith)) (λ z. z) (x .1 i l .0);
+  incumbent-rest = λ i h l. ⊎-elim (λ early. absurd (omega arith)) (λ z. z) (x .1 i l .1);
+  none-rest = λ f i l. ⊎-elim (λ early. absurd (true≢false (sym (early .0) ∙ f))) (λ z. z) (x .1 i l .1);
+}
+  where
+    held : c .holds ≡ true → Common P (take (P .old .order) (c .incumbent)) × (c .minimum ≤ size (take (P .old .order) (c .incumbent)))
+    held e = ⊎-elim (λ f. absurd (true≢false (sym e ∙ f))) (λ h. h) (x .0 .0 .1)
+
+shape-clauses : (P : Problem) (c : Checkpoint) → InShape P c → Clauses P c
+shape-clauses P c s = (
+  (
+    ((s .depth-max, s .entry), held (c .holds) refl),
+    (
+      (finished (c .finished) refl, (λ e. let start = s .unmoved e in (start .0, start .1), λ start. s .moved (start .0) (start .1))),
+      steps (eqb (c .steps) 0) refl,
+    ),
+  ),
+  λ i l. (path i l (decLt i (c .depth)), incumbent i l (c .holds) refl (decLt i (P .old .order))),
+)
+  where
+    held : (b : Bool) → c .holds ≡ b
+        → (c .holds ≡ false) ⊎ (Common P (take (P .old .order) (c .incumbent)) × (c .minimum ≤ size (take (P .old .order) (c .incumbent))))
+    held true e = inr (s .incumbent-common e, s .incumbent-reaches e)
+    held false e = inl e
+
+    finished : (b : Bool) → c .finished ≡ b → (c .finished ≡ false) ⊎ (c .depth ≡ 0)
+    finished true e = inr (s .finished-root e)
+    finished false e = inl e
+
+    steps : (b : Bool) → eqb (c .steps) 0 ≡ b → (eqb (c .steps) 0 ≡ false) ⊎ (c .holds ≡ false)
+    steps true e = inr (s .unmoved (eqb-true (c .steps) 0 e) .2)
+    steps false e = inl e
+
+    path : (i : ℕ) → i < 64 → Dec (i < c .depth) → (i < c .depth) ⊎ (getD (c .path) i 0 ≡ 0)
+    path i l (yes early) = inl early
+    path i l (no late) = inr (s .path-rest i (omega arith) l)
+
+    incumbent : (i : ℕ) → i < 64 → (b : Bool) → c .holds ≡ b → Dec (i < P .old .order)
+        → ((c .holds ≡ true) × (i < P .old .order)) ⊎ (getD (c .incumbent) i 0 ≡ 0)
+    incumbent i l true e (yes early) = inl (e, early)
+    incumbent i l true e (no late) = inr (s .incumbent-rest i (omega arith) l)
+    incumbent i l false e d = inr (s .none-rest e i l)
+
+module _ (P : Problem) (sound : SoundProblem P) where
+  -- Between two sound graphs the check of a list is all of the check.
+  pub list-check : (l : List ℕ) → checkOutcome P l ≡ listOutcome P l
+  unfolding checkOutcome
+  list-check l = rw (problem-passes P sound)
+
+  -- The check of a list accepts it with at least k pairs exactly where it is a common subgraph of so many.
+  pub tells-reaches : (k : ℕ) (l : List ℕ) → Tells (reaches k (listOutcome P l)) (Common P l × (k ≤ size l))
+  tells-reaches k l = (
+    λ e.
+        let found = reached-number k (listOutcome P l) e in
+        let good = passes-common P l sound (found .0) (list-check l ∙ found .1) in
+        (good .0, omega (arith, found .2, good .1)),
+    λ good. ap (reaches k) (sym (list-check l) ∙ common-passes P l sound (good .0)) ∙ le-leb k (size l) (good .1),
+  )
+
+  module _ (c : Checkpoint) where
+    tells-clauses : Tells (inShape P c) (Clauses P c)
+    unfolding inShape
+    tells-clauses =
+        tells-both _ _ (tells-both _ _ (tells-both _ _ (tells-both _ _
+        (tells-le (c .depth) (P .old .order))
+        (tells-all (c .depth) (pathFits P c) (λ k. tells-one _ _ (tells-eq (getD (c .path) k 0) unmapped) (tells-itself _))))
+        (tells-one _ _ (tells-not (c .holds)) (tells-reaches (c .minimum) _)))
+        (tells-both _ _ (tells-both _ _
+        (tells-one _ _ (tells-not (c .finished)) (tells-eq (c .depth) 0))
+        (tells-same _ _ (tells-eq (c .steps) 0) (tells-both _ _ (tells-not (c .finished)) (tells-eq (c .depth) 0))))
+        (tells-one _ _ (tells-not (eqb (c .steps) 0)) (tells-not (c .holds)))))
+        (tells-all 64 (restFits (P .old .order) c) (λ i. tells-both _ _
+        (tells-one _ _ (tells-lt i (c .depth)) (tells-eq (getD (c .path) i 0) 0))
+        (tells-one _ _ (tells-both _ _ (tells-itself (c .holds)) (tells-lt i (P .old .order))) (tells-eq (getD (c .incumbent) i 0) 0))))
+
+    -- The test passes exactly on a checkpoint in shape.
+    pub shape-test : (inShape P c ≡ true) ↔ InShape P c
+    shape-test = Iff·trans tells-clauses (clauses-shape P c, shape-clauses P c)

@@ -1,0 +1,3 @@
+pub mod Checkpoints
+pub mod Checking
+pub mod Answers

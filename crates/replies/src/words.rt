@@ -1,0 +1,44 @@
+// A search call over words of its own, and what an accepted one leaves of the lent words.
+
+use checkpoint::Checkpoint;
+use problem::Edges;
+use problem::Labels;
+use problem::Orders;
+use search::Searched;
+use search::WORDS;
+ghost use mathlib.Core.Path.{_≡_};
+ghost use mathlib.Core.List.{List};
+ghost use Prim.Native.Nat.{ℕ, _≤_};
+ghost use lib.ListN.{length};
+ghost use Rattle.problem.specs.Lent.{lent};
+ghost use Rattle.search.specs.Call.{wordsNeeded, searchCall};
+ghost use Rattle.replies.specs.Apart.{FoundBy, cleared};
+
+// The search call as over any lent workspace of so many words: too few of them are refused.
+pub fn search_apart<'a>(
+    orders: Orders,
+    labels: Labels<'a>,
+    edges: Edges<'a>,
+    checkpoint: Checkpoint,
+    budget: u64,
+    words: usize,
+) -> Searched
+    ensures { λ r. ⌜ ((workspace : List ℕ) → length workspace ≡ words
+        → FoundBy r (searchCall (lent orders (labels .entry) (edges .entry)) checkpoint budget workspace)) ⌝ }
+{
+    let mut own = [0u64; WORDS];
+    let used = if words < WORDS { words } else { WORDS };
+    search::search(orders, labels, edges, checkpoint, budget, &mut own[..used])
+}
+
+// The words that a call needs become 0.
+pub fn clear_words(workspace: &mut [u64])
+    requires { ⌜ wordsNeeded ≤ length (now workspace) ⌝ }
+    ensures { λ _. ⌜ now (workspace .exit) ≡ cleared (now (workspace .entry)) ⌝ }
+{
+    let mut i = 0;
+    while i < WORDS {
+        workspace[i] = 0;
+        i += 1;
+    }
+}

@@ -1,0 +1,291 @@
+-- One visit by the code is one of the walk's: a node is left, or held and left, or its first child is next, and all is ready for another visit.
+use mathlib.Core.Path.{_≡_, refl, sym, ap, _∙_}
+use mathlib.Core.Bool.{Bool, true, false, cond, true≢false}
+use mathlib.Core.List.{List, _∷_}
+use mathlib.Core.Option.{Option, none, some}
+use Prim.Native.Nat.{ℕ, _+_, _-_, _^_, _≤_, _<_}
+use native.Mathlib.Omega.{arith}
+use lib.ListN.{length, getD, take}
+use borrow.Author.Tests.{lt-ltb, le-ltb, le-leb, lt-leb}
+use Rattle.problem.specs.Problem.{Problem, SoundProblem}
+use Rattle.search_tree.specs.Rules.{rulesOf}
+use Rattle.search_tree.specs.Search.{Search, searchOf}
+use Rattle.search_tree.specs.Node.{upperBound, children, laterSiblings}
+use Rattle.search_tree.specs.Walk.{State, cutoff, goOn, visit, visitPath}
+use Rattle.search_tree.proofs.Shape.{visit-shape}
+use Rattle.checkpoint.specs.declared.Checkpoint.{Checkpoint}
+use Rattle.search.specs.declared.walk.Place.{Place}
+use Rattle.search.specs.declared.walk.Walk.{Walk}
+use Rattle.checkpoint.specs.Checkpoints.{checkpointOf, stateOf, InShape}
+use Rattle.search.specs.Words.{Later, Words}
+use Rattle.search.specs.Walking.{Setting, AtNode, InBounds, Ready, Arrives, Bounded, RestZero, Descends, Retreats}
+use Rattle.checkpoint.proofs.CheckpointState.{checkpoint-tidy}
+use Rattle.search.proofs.ReadyWalk.{own-order, node-length}
+use Rattle.search.proofs.ReachedBounds.{reached-in-bounds}
+use Rattle.checkpoint.proofs.StateShape.{state-in-shape}
+use Rattle.checkpoint.proofs.StateShape.{checkpoint-in-shape}
+
+module _ {P : Problem} {n : ℕ} {edges masks path ws : List ℕ} {depth pairs : ℕ} (setting : Setting P n edges masks)
+    (node : AtNode P path depth pairs ws) where
+  -- A node of a problem is in bounds.
+  pub node-in-bounds : {later : List ℕ} → Later edges later → InBounds edges masks later path depth pairs ws
+  node-in-bounds later-are =
+      rw (node .pairs-are) (reached-in-bounds path depth setting later-are (node .reached) (node .depth-max) (node .path-length) (node .room))
+
+  -- A node stays one while the words of its ancestors do.
+  pub node-kept : {ws′ : List ℕ} → length ws′ ≡ length ws → Words P path (depth - 1) ws′ → AtNode P path depth pairs ws′
+  node-kept same words = record {
+    path-length = node .path-length;
+    room = omega (arith, node .room);
+    reached = node .reached;
+    depth-max = node .depth-max;
+    pairs-are = node .pairs-are;
+    words = words;
+  }
+
+-- A walk that is ready for a visit is in bounds.
+pub ready-in-bounds : {P : Problem} {n : ℕ} {edges masks later ws : List ℕ} {w : Walk} → Setting P n edges masks → Later edges later
+    → Ready P w ws → InBounds edges masks later (w .checkpoint .path) (w .checkpoint .depth) (w .pairs) ws
+ready-in-bounds setting later-are ready = node-in-bounds setting (ready .node) later-are
+
+-- a place as a state
+abbrev placeState : ℕ → Option (List ℕ) → Place → List ℕ → State
+placeState steps held r path = record { steps = steps; path = take (r .depth) path; finished = r .finished; incumbent = held }
+
+-- where the code retreats to, the walk goes on
+retreats-state : {P : Problem} {path path′ ws : List ℕ} {depth : ℕ} {r : Place} (steps : ℕ) (held : Option (List ℕ))
+    → Retreats P path depth ws r path′ → placeState steps held r path′ ≡ goOn steps held (laterSiblings (rulesOf P) (take depth path) depth)
+retreats-state {P} {path} {path′} {ws} {depth} {r} steps held back = go (r .finished) refl
+  where
+    go : (b : Bool) → r .finished ≡ b → placeState steps held r path′ ≡ goOn steps held (laterSiblings (rulesOf P) (take depth path) depth)
+    go true e = rw (back .none-left e .0, back .none-left e .1, e)
+    go false e = rw (back .sibling e .1, e)
+
+module _ (S : Search) (minimum steps : ℕ) (path : List ℕ) (held : Option (List ℕ)) where
+  -- the three cases of a visit
+  visit-low : upperBound (S .rules) path < cutoff minimum held
+      → visitPath S minimum steps path held ≡ goOn steps held (laterSiblings (S .rules) path (length path))
+  unfolding visitPath
+  visit-low low = rw (lt-ltb (upperBound (S .rules) path) (cutoff minimum held) low)
+
+  visit-last : cutoff minimum held ≤ upperBound (S .rules) path → S .rules .rows ≤ length path
+      → visitPath S minimum steps path held ≡ goOn steps (cond (S .admits path) (some path) held) (laterSiblings (S .rules) path (length path))
+  unfolding visitPath
+  visit-last high last = rw (le-ltb (upperBound (S .rules) path) (cutoff minimum held) high, le-leb (S .rules .rows) (length path) last)
+
+  visit-inner : cutoff minimum held ≤ upperBound (S .rules) path → length path < S .rules .rows
+      → visitPath S minimum steps path held ≡ goOn steps held (children (S .rules) path)
+  unfolding visitPath
+  visit-inner high inner = rw (le-ltb (upperBound (S .rules) path) (cutoff minimum held) high, lt-leb (S .rules .rows) (length path) inner)
+
+-- what the state that a checkpoint stands for holds
+abbrev heldBy : ℕ → Checkpoint → Option (List ℕ)
+heldBy n c = cond (c .holds) (some (take n (c .incumbent))) none
+
+-- an unfinished checkpoint's visit is of its node
+visit-node : (P : Problem) (n : ℕ) (c : Checkpoint) → c .finished ≡ false
+    → visit (searchOf P) (c .minimum) (stateOf n c)
+    ≡ visitPath (searchOf P) (c .minimum) (c .steps + 1) (take (c .depth) (c .path)) (heldBy n c)
+unfolding visit stateOf
+visit-node P n c busy = rw busy
+
+-- the checkpoint with one step more, at a place
+abbrev stepped : Checkpoint → Place → List ℕ → Bool → List ℕ → Checkpoint
+stepped c r path holds incumbent =
+    record {
+      minimum = c .minimum;
+      steps = c .steps + 1;
+      depth = r .depth;
+      path = path;
+      finished = r .finished;
+      holds = holds;
+      incumbent = incumbent;
+    }
+
+-- the checkpoint at a place stands for the place as a state, where what is held stays,
+left-state : (n : ℕ) (c : Checkpoint) (r : Place) (path′ : List ℕ)
+    → stateOf n (stepped c r path′ (c .holds) (c .incumbent)) ≡ placeState (c .steps + 1) (heldBy n c) r path′
+unfolding stateOf
+left-state n c r path′ = refl
+
+-- and where the whole path is held
+held-state : (n : ℕ) (c : Checkpoint) (r : Place) (path′ : List ℕ) → n ≡ c .depth
+    → stateOf n (stepped c r path′ true (c .path)) ≡ placeState (c .steps + 1) (some (take (c .depth) (c .path))) r path′
+unfolding stateOf
+held-state n c r path′ whole = rw whole refl
+
+-- where a place is the first of some nodes, the walk goes on to them
+down-state : (steps : ℕ) (held : Option (List ℕ)) (r : Place) (path′ : List ℕ) {nodes rest : List (List ℕ)} → nodes ≡ take (r .depth) path′ ∷ rest
+    → r .finished ≡ false → placeState steps held r path′ ≡ goOn steps held nodes
+down-state steps held r path′ first goes-on = rw (first, goes-on)
+
+-- the bound of a place is made
+record Bound (P : Problem) (path : List ℕ) (r : Place) (cutoff : ℕ) (ws ws′ : List ℕ) (bound : ℕ) : Type 0 where
+  same : length ws′ ≡ length ws
+  bounded : Bounded P path (r .depth) cutoff ws′ bound
+  small : bound < 2 ^ 64 - 1
+
+module _ {P : Problem} {n : ℕ} {edges masks ws : List ℕ} {w : Walk} (setting : Setting P n edges masks) (ready : Ready P w ws)
+    (busy : w .checkpoint .finished ≡ false) where
+  -- the walk's cutoff is the state's
+  own-cutoff : cutoff (w .checkpoint .minimum) (heldBy (P .old .order) (w .checkpoint)) ≡ w .cutoff
+  unfolding stateOf
+  own-cutoff = sym (ready .cutoff-is)
+
+  own-length : length (take (w .checkpoint .depth) (w .checkpoint .path)) ≡ w .checkpoint .depth
+  own-length = node-length (setting .sound) (ready .node)
+
+  -- a checkpoint that stands for the next state, with unused bytes 0, is the next one
+  arrives : {r : Place} {path′ incumbent′ ws′ : List ℕ} {holds′ : Bool} {cutoff′ bound′ : ℕ}
+      → stateOf (P .old .order) (stepped (w .checkpoint) r path′ holds′ incumbent′)
+      ≡ visit (searchOf P) (w .checkpoint .minimum) (stateOf (P .old .order) (w .checkpoint))
+      → AtNode P path′ (r .depth) (r .pairs) ws → RestZero path′ (r .depth) → length incumbent′ ≡ 64
+      → ((i : ℕ) → P .old .order ≤ i → i < 64 → getD incumbent′ i 0 ≡ 0)
+      → (holds′ ≡ false → (i : ℕ) → i < 64 → getD incumbent′ i 0 ≡ 0)
+      → cutoff′ ≡ cutoff (w .checkpoint .minimum) (heldBy (P .old .order) (stepped (w .checkpoint) r path′ holds′ incumbent′))
+      → Bound P path′ r cutoff′ ws ws′ bound′
+      → Arrives P (w .checkpoint .minimum) (visit (searchOf P) (w .checkpoint .minimum) (stateOf (P .old .order) (w .checkpoint)))
+      (record { checkpoint = stepped (w .checkpoint) r path′ holds′ incumbent′; pairs = r .pairs; cutoff = cutoff′; bound = bound′ }) ws′
+  unfolding stateOf
+  arrives {r} {path′} {incumbent′} {ws′} {holds′} state node rest long incumbent-rest none-rest cutoff-is made = record {
+    checkpoint-is = next-is;
+    ready = record {
+      shape = rw next-is (checkpoint-in-shape P (setting .sound) (w .checkpoint .minimum) _ (visit-shape (searchOf P) (w .checkpoint .minimum) _
+          (state-in-shape P (setting .sound) (w .checkpoint) (ready .node .path-length) (ready .shape))));
+      incumbent-length = long;
+      node = node-kept setting node (made .same) (made .bounded .words);
+      cutoff-is = cutoff-is;
+      bounded = made .bounded;
+      small = made .small;
+    };
+  }
+    where
+      next : Checkpoint
+      next = stepped (w .checkpoint) r path′ holds′ incumbent′
+
+      next-is : next ≡ checkpointOf (w .checkpoint .minimum) (visit (searchOf P) (w .checkpoint .minimum) (stateOf (P .old .order) (w .checkpoint)))
+      next-is =
+          sym (checkpoint-tidy (P .old .order) next (setting .sound .old-sound .order-max) (node .path-length) long
+          (omega (arith, node .depth-max, setting .sound .old-sound .order-max)) rest incumbent-rest none-rest)
+          ∙ ap (checkpointOf (w .checkpoint .minimum)) state
+
+  -- a node whose upper bound is below the cutoff is left
+  step-left : {path′ ws′ : List ℕ} {r : Place} {bound′ : ℕ} → w .bound < w .cutoff
+      → Retreats P (w .checkpoint .path) (w .checkpoint .depth) ws r path′ → Bound P path′ r (w .cutoff) ws ws′ bound′
+      → Arrives P (w .checkpoint .minimum) (visit (searchOf P) (w .checkpoint .minimum) (stateOf (P .old .order) (w .checkpoint)))
+      (record {
+        checkpoint = stepped (w .checkpoint) r path′ (w .checkpoint .holds) (w .checkpoint .incumbent);
+        pairs = r .pairs;
+        cutoff = w .cutoff;
+        bound = bound′;
+      }) ws′
+  step-left {path′} {ws′} {r} low back made =
+      let c = w .checkpoint in
+      let left = visit-low (searchOf P) (c .minimum) (c .steps + 1) (take (c .depth) (c .path)) (heldBy (P .old .order) c)
+      (omega (arith, own-cutoff, ready .bounded .low low)) in
+      arrives (left-state (P .old .order) c r path′ ∙ retreats-state (c .steps + 1) (heldBy (P .old .order) c) back
+      ∙ sym (visit-node P (P .old .order) c busy ∙ (rw own-length at left)))
+      (back .node) (back .rest-zero (ready .shape .path-rest)) (ready .incumbent-length) (ready .shape .incumbent-rest) (ready .shape .none-rest)
+      (sym own-cutoff) made
+
+  -- a last node that reaches the cutoff is held, and left
+  step-held : {path′ ws′ : List ℕ} {r : Place} {bound′ : ℕ} → w .cutoff ≤ w .bound → w .checkpoint .depth ≡ n
+      → Retreats P (w .checkpoint .path) (w .checkpoint .depth) ws r path′ → Bound P path′ r (w .pairs + 1) ws ws′ bound′
+      → Arrives P (w .checkpoint .minimum) (visit (searchOf P) (w .checkpoint .minimum) (stateOf (P .old .order) (w .checkpoint)))
+      (record {
+        checkpoint = stepped (w .checkpoint) r path′ true (w .checkpoint .path);
+        pairs = r .pairs;
+        cutoff = w .pairs + 1;
+        bound = bound′;
+      }) ws′
+  step-held {path′} {ws′} {r} high last back made =
+      let c = w .checkpoint in
+      let is = ready .bounded .high high .0 in
+      let p = take (c .depth) (c .path) in
+      let whole : P .old .order ≡ c .depth = setting .order-is ∙ sym last in
+      let left = visit-last (searchOf P) (c .minimum) (c .steps + 1) p (heldBy (P .old .order) c) (omega (arith, own-cutoff))
+      (omega (arith, own-length)) in
+      arrives (held-state (P .old .order) c r path′ whole ∙ retreats-state (c .steps + 1) (some p) back
+      ∙ sym (visit-node P (P .old .order) c busy ∙ (rw own-length at left)))
+      (back .node) (back .rest-zero (ready .shape .path-rest)) (ready .node .path-length)
+      (λ i h b. ready .shape .path-rest i (omega arith) b) (λ e. absurd (true≢false e))
+      (rw whole (ap (λ (k : ℕ). k + 1) (ready .node .pairs-are))) made
+
+  -- after another node that reaches the cutoff comes its first child
+  step-down : {path′ ws′ : List ℕ} {r : Place} {bound′ : ℕ} → w .cutoff ≤ w .bound → w .checkpoint .depth < P .old .order
+      → Descends P (w .checkpoint .path) (w .checkpoint .depth) ws r path′ → Bound P path′ r (w .cutoff) ws ws′ bound′
+      → Arrives P (w .checkpoint .minimum) (visit (searchOf P) (w .checkpoint .minimum) (stateOf (P .old .order) (w .checkpoint)))
+      (record {
+        checkpoint = stepped (w .checkpoint) r path′ (w .checkpoint .holds) (w .checkpoint .incumbent);
+        pairs = r .pairs;
+        cutoff = w .cutoff;
+        bound = bound′;
+      }) ws′
+  step-down {path′} {ws′} {r} high inner down made =
+      let c = w .checkpoint in
+      let is = ready .bounded .high high .0 in
+      let next = visit-inner (searchOf P) (c .minimum) (c .steps + 1) (take (c .depth) (c .path)) (heldBy (P .old .order) c)
+      (omega (arith, own-cutoff)) (omega (arith, own-length)) in
+      arrives (left-state (P .old .order) c r path′ ∙ down-state (c .steps + 1) (heldBy (P .old .order) c) r path′ (down .child .1) (down .goes-on)
+      ∙ sym (visit-node P (P .old .order) c busy ∙ next))
+      (down .node) (down .rest-zero (ready .shape .path-rest)) (ready .incumbent-length) (ready .shape .incumbent-rest) (ready .shape .none-rest)
+      (sym own-cutoff) made
+
+-- Whatever the problem: the code made one visit, and is ready for another.
+abbrev pub Visits : ℕ → List ℕ → List ℕ → Walk → List ℕ → Walk → List ℕ → Type 0
+Visits n edges masks w ws w′ ws′ =
+    (P : Problem) → Setting P n edges masks → Ready P w ws
+    → Arrives P (w .checkpoint .minimum) (visit (searchOf P) (w .checkpoint .minimum) (stateOf (P .old .order) (w .checkpoint))) w′ ws′
+
+module _ {n : ℕ} {edges masks ws ws′ path′ : List ℕ} {r : Place} {cutoff′ bound′ : ℕ} (w : Walk) (busy : w .checkpoint .finished ≡ false)
+    (same : length ws′ ≡ length ws)
+    (bounded : ((P : Problem) → Setting P (P .old .order) edges masks → AtNode P path′ (r .depth) (r .pairs) ws
+    → Bounded P path′ (r .depth) cutoff′ ws′ bound′) × (bound′ < 2 ^ 64 - 1)) where
+  -- the bound of the place that the walk moves to
+  bound-made : {P : Problem} → Setting P n edges masks → AtNode P path′ (r .depth) (r .pairs) ws → Bound P path′ r cutoff′ ws ws′ bound′
+  bound-made {P} setting node = record { same = same; bounded = bounded .0 P (own-order setting) node; small = bounded .1 }
+
+  -- Whatever the problem, a node below the cutoff is left.
+  pub visits-left : cutoff′ ≡ w .cutoff → w .bound < w .cutoff
+      → ((P : Problem) → SoundProblem P → AtNode P (w .checkpoint .path) (w .checkpoint .depth) (w .pairs) ws
+      → Retreats P (w .checkpoint .path) (w .checkpoint .depth) ws r path′)
+      → Visits n edges masks w ws
+      (record {
+        checkpoint = stepped (w .checkpoint) r path′ (w .checkpoint .holds) (w .checkpoint .incumbent);
+        pairs = r .pairs;
+        cutoff = w .cutoff;
+        bound = bound′;
+      }) ws′
+  visits-left given low back =
+      λ P setting ready.
+      let next = back P (setting .sound) (ready .node) in
+      step-left setting ready busy low next (rw given at (bound-made setting (next .node)))
+
+  -- Whatever the problem, a last node that reaches the cutoff is held, and left.
+  pub visits-held : cutoff′ ≡ w .pairs + 1 → w .cutoff ≤ w .bound → w .checkpoint .depth ≡ n
+      → ((P : Problem) → SoundProblem P → AtNode P (w .checkpoint .path) (w .checkpoint .depth) (w .pairs) ws
+      → Retreats P (w .checkpoint .path) (w .checkpoint .depth) ws r path′)
+      → Visits n edges masks w ws
+      (record { checkpoint = stepped (w .checkpoint) r path′ true (w .checkpoint .path); pairs = r .pairs; cutoff = w .pairs + 1; bound = bound′ }) ws′
+  visits-held given high last back =
+      λ P setting ready.
+      let next = back P (setting .sound) (ready .node) in
+      step-held setting ready busy high last next (rw given at (bound-made setting (next .node)))
+
+  -- Whatever the problem, after another node that reaches the cutoff comes its first child.
+  pub visits-down : cutoff′ ≡ w .cutoff → w .cutoff ≤ w .bound → (w .checkpoint .depth ≡ n → ⊥)
+      → ((P : Problem) → SoundProblem P → w .checkpoint .depth < P .old .order
+      → AtNode P (w .checkpoint .path) (w .checkpoint .depth) (w .pairs) ws
+      → Words P (w .checkpoint .path) (w .checkpoint .depth) ws → Descends P (w .checkpoint .path) (w .checkpoint .depth) ws r path′)
+      → Visits n edges masks w ws
+      (record {
+        checkpoint = stepped (w .checkpoint) r path′ (w .checkpoint .holds) (w .checkpoint .incumbent);
+        pairs = r .pairs;
+        cutoff = w .cutoff;
+        bound = bound′;
+      }) ws′
+  visits-down given high inner down =
+      λ P setting ready.
+      let below : w .checkpoint .depth < P .old .order = omega (arith, inner, ready .node .depth-max, setting .order-is) in
+      let next = down P (setting .sound) below (ready .node) (ready .bounded .high high .1) in
+      step-down setting ready busy high below next (rw given at (bound-made setting (next .node)))

@@ -1,0 +1,90 @@
+//! Graphs like those of panels: few edges, many labels, and a new graph that is for the most part a
+//! copy of the old one.
+
+use std::collections::BTreeMap;
+
+use crate::random::Random;
+use crate::reference::{Graph, Problem};
+
+const EDGE_LABELS: [u8; 3] = [1, 2, 3];
+/// One vertex in so many is changed in the copy.
+const CHANGED: usize = 5;
+
+/// A panel, and a copy of it in which a fifth of the vertices is changed, in another numbering.
+pub fn problem(random: &mut Random, order: usize, vertex_labels: u8) -> Problem {
+    let vertex_labels: Vec<u8> = (1..=vertex_labels).collect();
+    let panel = Panel::random(random, order, &vertex_labels);
+    let mut copy = panel.clone();
+    copy.change(random, &vertex_labels);
+    let mut numbers: Vec<usize> = (0..order).collect();
+    let old = panel.graph(&numbers);
+    random.shuffle(&mut numbers);
+    let new = copy.graph(&numbers);
+    Problem { old, new }
+}
+
+#[derive(Clone)]
+struct Panel {
+    labels: Vec<u8>,
+    /// By their ends, the smaller first.
+    edges: BTreeMap<(usize, usize), u8>,
+}
+
+impl Panel {
+    /// Connected, with three edges for two vertices: a vertex has three on the average.
+    fn random(random: &mut Random, order: usize, vertex_labels: &[u8]) -> Panel {
+        let mut panel = Panel {
+            labels: (0..order).map(|_| random.pick(vertex_labels)).collect(),
+            edges: BTreeMap::new(),
+        };
+        for vertex in 1..order {
+            let end = random.within(0..vertex);
+            panel.edges.insert((end, vertex), random.pick(&EDGE_LABELS));
+        }
+        while panel.edges.len() < 3 * order / 2 {
+            let vertex = random.within(0..order);
+            panel.add_edge_of(random, vertex);
+        }
+        panel
+    }
+
+    /// To any vertex that it has none to.
+    fn add_edge_of(&mut self, random: &mut Random, vertex: usize) {
+        let between = |end: usize| (vertex.min(end), vertex.max(end));
+        let is_free = |&end: &usize| end != vertex && !self.edges.contains_key(&between(end));
+        let ends: Vec<usize> = (0..self.labels.len()).filter(is_free).collect();
+        let end = random.pick(&ends);
+        self.edges.insert(between(end), random.pick(&EDGE_LABELS));
+    }
+
+    /// A changed vertex has a label of its own choice, and one of its edges leads elsewhere.
+    fn change(&mut self, random: &mut Random, vertex_labels: &[u8]) {
+        let mut vertices: Vec<usize> = (0..self.labels.len()).collect();
+        random.shuffle(&mut vertices);
+        vertices.truncate(self.labels.len() / CHANGED);
+        for vertex in vertices {
+            self.labels[vertex] = random.pick(vertex_labels);
+            let has_it = |&(a, b): &(usize, usize)| a == vertex || b == vertex;
+            let edges: Vec<_> = self.edges.keys().copied().filter(has_it).collect();
+            if !edges.is_empty() {
+                self.edges.remove(&random.pick(&edges));
+                self.add_edge_of(random, vertex);
+            }
+        }
+    }
+
+    /// The graph in which vertex `numbers[i]` of the panel has number i.
+    fn graph(&self, numbers: &[usize]) -> Graph {
+        let mut graph = Graph::default();
+        for (number, &vertex) in numbers.iter().enumerate() {
+            graph.add_vertex(self.labels[vertex]).unwrap();
+            for (earlier, &other) in numbers[..number].iter().enumerate() {
+                let ends = (vertex.min(other), vertex.max(other));
+                if let Some(&label) = self.edges.get(&ends) {
+                    graph.add_edge(earlier, number, label).unwrap();
+                }
+            }
+        }
+        graph
+    }
+}
