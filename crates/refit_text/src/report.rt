@@ -43,8 +43,8 @@ fn put_accepted(
 {
     let size = put_state(finished, out);
     let steps_at = put_size(holds, mapping, out, size);
-    let fence = text::put_number_line(b"steps ", steps, out, steps_at);
-    let end = text::put_number_line(b"fence ", ceiling as u64, out, fence);
+    let ceiling_at = text::put_number_line(b"steps ", steps, out, steps_at);
+    let end = text::put_number_line(b"fence ", ceiling as u64, out, ceiling_at);
     vertices::put_incumbent(holds, new_order, mapping, out, end)
 }
 

@@ -32,14 +32,14 @@ same-length c = search needs
 returns : tie.Need-returns
 returns c =
     let held = c .before .before in
-    let fence = held .before .before .before .before in
-    let steps = fence .before .before .before .before .before in
+    let ceiling = held .before .before .before .before in
+    let steps = ceiling .before .before .before .before .before in
     let size = steps .before .before .before .before .before in
     let state = size .before .before .before .before in
     put-then
     (put-then
     (put-then (put-then (state .put-state .ensures) (size .put-size .ensures)) (steps .put-number-line .ensures))
-    (fence .put-number-line2 .ensures))
+    (ceiling .put-number-line2 .ensures))
     (held .put-incumbent .ensures)
 
 pub put-accepted-spec : {M : Type 1} → statement M
