@@ -2,16 +2,16 @@
 use mathlib.Core.Path.{_≡_, refl, sym, ap, ap₂, _∙_}
 use mathlib.Core.Bool.{Bool, true, false}
 use mathlib.Core.Logic.{_↔_}
-use Prim.Native.Nat.{ℕ, zero, suc, _+_, _*_, _%_, _^_, _≤_, _<_}
+use Prim.Native.Nat.{ℕ, zero, suc, _+_, _*_, _%_, _^_, _<_}
 use native.Mathlib.Nat.{add-comm, mod-one, mod-lt, mod-eq-of-lt}
 use native.Mathlib.Numerals.{one-add}
 use lib.Pow.{pow-pos, mod-pow-add}
 use lib.Count.{ones, ones-cat}
-use Rattle.bitset.specs.Members.{member, setOf}
+use Rattle.bitset.specs.Members.{member}
 use Rattle.bitset.specs.Count.{countBelow, size}
 use Rattle.bitset.proofs.Membership.{digit, digit-member}
-use Rattle.bitset.proofs.SetOf.{setOf-lt, setOf-word, member-setOf, no-member}
-use Rattle.bitset.proofs.CountBelow.{countBelow-congr, countBelow-zero}
+use Rattle.bitset.proofs.SetOf.{no-member}
+use Rattle.bitset.proofs.CountBelow.{countBelow-zero}
 
 ones-digit : (test : Bool) → ones (digit test) ≡ digit test
 unfolding ones
@@ -39,11 +39,3 @@ size-zero {s} h = (
   λ e. no-member 64 h .1 (countBelow-zero 64 (member s) .0 e),
   λ e. countBelow-zero 64 (member s) .1 (no-member 64 h .0 e),
 )
-
--- The size of the set of a test is the count of the numbers that pass.
-pub size-setOf : (k : ℕ) (t : ℕ → Bool) → k ≤ 64 → size (setOf k t) ≡ countBelow k t
-size-setOf k t h =
-    size-ones (setOf-word k t h)
-    ∙ ap ones (sym (mod-eq-of-lt (setOf-lt k t)))
-    ∙ sym (countBelow-ones k (setOf k t))
-    ∙ countBelow-congr k (member (setOf k t)) t (member-setOf k t)

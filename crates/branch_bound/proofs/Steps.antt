@@ -3,7 +3,7 @@ use mathlib.Core.Path.{_≡_, refl}
 use mathlib.Core.Bool.{Bool, true, false, cond}
 use mathlib.Core.Option.{Option, none, some}
 use mathlib.Core.List.{List, [], _∷_, _++_}
-use Prim.Native.Nat.{ℕ, zero, suc, _+_, _≤_, _<_}
+use Prim.Native.Nat.{ℕ, zero, suc, _≤_, _<_}
 use native.Mathlib.Numerals.{add-one}
 use native.Mathlib.Nat.{le-refl, le-trans}
 use native.Mathlib.Decide.{le-ind}
@@ -51,11 +51,6 @@ module _ (T : Tree) (minimum : ℕ) where
       go (n ∷ rest) incumbent = visit-cases (R (state T (n ∷ rest) incumbent)) incumbent n rest (visited incumbent n rest)
 
   module _ (root : T .Node) where
-    -- The state after one more step is the step of the state.
-    pub after-next : (k : ℕ) → after T minimum root (k + 1) ≡ step T minimum (after T minimum root k)
-    unfolding after
-    after-next k = rw (add-one k)
-
     -- What holds at the start and is kept by every step holds after every number of steps.
     pub after-keeps : (I : State T → Type 0) → I (state T (root ∷ []) none) → ((s : State T) → I s → I (step T minimum s))
         → (k : ℕ) → I (after T minimum root k)

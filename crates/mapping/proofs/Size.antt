@@ -1,13 +1,12 @@
 -- The size of a mapping counts its entries that are not 255, so it adds up row by row.
-use mathlib.Core.Path.{_≡_, refl, ap}
+use mathlib.Core.Path.{_≡_, refl}
 use mathlib.Core.Logic.{_≢_}
 use mathlib.Core.Bool.{Bool, true, false, cond}
 use mathlib.Core.List.{List, [], _∷_, _++_}
-use Prim.Native.Nat.{ℕ, zero, suc, _+_, _≤_, _<_}
-use native.Mathlib.Nat.{not-suc-le-zero, le-of-suc-le-suc}
+use Prim.Native.Nat.{ℕ, zero, suc, _+_, _≤_}
 use native.Mathlib.Omega.{arith}
 use lib.Dec.{eqb}
-use lib.ListN.{length, getD, set, replicate}
+use lib.ListN.{length, replicate}
 use borrow.Author.Tests.{ne-eqb}
 use Rattle.mapping.specs.Common.{unmapped, mappedFrom, size}
 
@@ -62,21 +61,6 @@ pub size-none : (n : ℕ) → size (replicate n unmapped) ≡ 0
 size-none zero = size-nil
 size-none (suc n) = omega (arith, size-cons unmapped (replicate n unmapped), size-none n)
 
--- An entry put in for another counts in its stead.
-pub size-set : (l : List ℕ) (v w : ℕ) → v < length l → size (set l v w) + counted (getD l v 0) ≡ size l + counted w
-size-set [] v w h = absurd (not-suc-le-zero h)
-size-set (a ∷ l) zero w h = omega (arith, size-cons w l, size-cons a l)
-size-set (a ∷ l) (suc v) w h =
-    omega (arith, size-cons a (set l v w), size-cons a l, size-set l v w (le-of-suc-le-suc h))
-
 -- A mapped row counts one.
 pub counted-mapped : (w : ℕ) → w ≢ unmapped → counted w ≡ 1
 counted-mapped w m = rw (ne-eqb w unmapped m)
-
--- Taking a mapped row out makes the mapping one smaller.
-pub size-remove : (l : List ℕ) (v : ℕ) → v < length l → getD l v 0 ≢ unmapped → size (set l v unmapped) + 1 ≡ size l
-size-remove l v h m = omega (arith, size-set l v unmapped h, counted-mapped (getD l v 0) m)
-
--- Mapping a row that was left out makes the mapping one larger.
-pub size-add : (l : List ℕ) (v w : ℕ) → v < length l → getD l v 0 ≡ unmapped → w ≢ unmapped → size (set l v w) ≡ size l + 1
-size-add l v w h e m = omega (arith, size-set l v w h, ap counted e, counted-mapped w m)

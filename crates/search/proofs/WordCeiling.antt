@@ -18,7 +18,7 @@ use Rattle.search_tree.proofs.Children.{Choice, mem-choices, child-is}
 use Rattle.search_tree.proofs.Choices.{mem-choicesAfter}
 use Rattle.search_tree.proofs.BoundFalls.{bound-falls}
 use Rattle.search.specs.Words.{levelWord, Words}
-use Rattle.search.proofs.WordChoices.{choicesAfter-left-out, siblings-left-out, next-taken, next-left-out}
+use Rattle.search.proofs.WordChoices.{siblings-left-out, next-taken, next-left-out}
 
 module _ (R : Rules) where
   -- The greatest bound of two lists of nodes is the greater of theirs.
@@ -68,11 +68,6 @@ module _ (R : Rules) where
   topBound-root path = refl
 
 module _ (P : Problem) (sound : SoundProblem P) where
-  -- After 255 there is nothing to count.
-  pub topBound-left-out : (q : List ℕ) → topBound (rulesOf P) (map (extend q) (choicesAfter (rulesOf P) q unmapped)) ≡ 0
-  unfolding topBound
-  topBound-left-out q = rw (choicesAfter-left-out (rulesOf P) (omega (arith, sound .new-sound .order-max)) q)
-
   -- A level whose entry is 255 adds nothing.
   pub topBound-same : (path : List ℕ) (k : ℕ) → getD path k 0 ≡ unmapped
       → topBound (rulesOf P) (laterSiblings (rulesOf P) path (k + 1)) ≡ topBound (rulesOf P) (laterSiblings (rulesOf P) path k)

@@ -10,10 +10,10 @@ use native.Mathlib.Decide.{decLt}
 use native.Mathlib.Omega.{arith}
 use lib.Dec.{ltb, eqb}
 use lib.ListN.{length, getD, take, drop, take-append-drop, List·getD-eq-default}
-use lib.Seq.{length-take-le, take-suc, take-take, take-at}
+use lib.Seq.{length-take-le, take-suc, take-take}
 use borrow.Author.Tests.{lt-ltb, ne-eqb}
 use Rattle.bitset.specs.Members.{member}
-use Rattle.bitset.proofs.SetOf.{member-setOf, member-setOf-above, setOf-congr, meetOf-setOf, setOf-within}
+use Rattle.bitset.proofs.SetOf.{member-setOf, member-setOf-above, setOf-congr, meetOf-setOf}
 use Rattle.bounded.specs.Below.{allBelow}
 use Rattle.graph.specs.Graph.{graph, edge}
 use Rattle.problem.specs.Problem.{Problem, SoundProblem, allowed, consistent}
@@ -35,12 +35,6 @@ words-same p q d same words = record { word = λ k l r. rw (prefix k l) at (word
   where
     prefix : (k : ℕ) → k ≤ d → take k p ≡ take k q
     prefix k l = sym (take-take k d p l) ∙ ap (take k) same ∙ take-take k d q l
-
--- The words of a path's first k entries serve a node that extends them.
-pub words-extend : {P : Problem} {ws : List ℕ} (path : List ℕ) (k v : ℕ) → k ≤ length path → Words P path k ws
-    → Words P (extend (take k path) v) k ws
-words-extend path k v h words =
-    words-same path (extend (take k path) v) k (sym (take-at (take k path) (v ∷ []) k (length-take-le k path h))) words
 
 -- The size of a path with one more entry.
 pub size-extend : (path : List ℕ) (v : ℕ) → size (extend path v) ≡ size path + counted v

@@ -15,14 +15,14 @@ use mathlib.Core.List.{
   Memᴰ·of-map,
 }
 use Prim.Native.Nat.{ℕ, zero, suc, _≤_, _<_}
-use native.Mathlib.Nat.{not-suc-le-zero, eq-or-lt-of-le, le-refl}
+use native.Mathlib.Nat.{not-suc-le-zero, eq-or-lt-of-le}
 use native.Mathlib.Omega.{arith}
 use lib.ListN.{length, getD, take, length-take, List·getD-append}
 use lib.Seq.{length-take-le, take-take, getD-take, take-append-le, take-append-seam, getD-append-seam}
 use borrow.Author.Tests.{leb-true, leb-false}
 use Rattle.mapping.specs.Common.{unmapped}
 use Rattle.search_tree.specs.Rules.{Rules}
-use Rattle.search_tree.specs.Node.{candidate, extend, isLast, choices, children, choicesAfter, laterSiblings, openNodes}
+use Rattle.search_tree.specs.Node.{candidate, extend, isLast, choices, children, choicesAfter, laterSiblings}
 use Rattle.search_tree.specs.Trees.{Reached}
 use Rattle.search_tree.proofs.Candidates.{length-extend}
 use Rattle.search_tree.proofs.Children.{Choice, mem-choices, children-inner}
@@ -95,10 +95,3 @@ module _ (R : Rules) where
       (λ v c. mem-choicesAfter R q w c) n)
       (λ n. reached-siblings r k (omega arith) n)
       (List·Memᴰ·append-cases (map (extend q) (choicesAfter R q w)) m)
-
-  -- All open nodes are reached where the next one is.
-  pub reached-open : {path : List ℕ} → Reached R path → {p : List ℕ} → List·Memᴰ p (openNodes R path) → Reached R p
-  unfolding openNodes
-  reached-open {path} r {p} m =
-      ⊎-elim (λ (e : p ≡ path). rw e r) (λ n. reached-siblings r (length path) (le-refl (length path)) n .0)
-      (List·Memᴰ·cases-cons m)

@@ -56,24 +56,12 @@ module _ (S : Search) (minimum : ℕ) where
   finished-stays k j end = le-ind (λ j. after S minimum j ≡ after S minimum k) refl
       (λ j h same. ap (visit S minimum) same ∙ visit-finished (after S minimum k) end) j
 
-  -- What is unfinished after k visits was unfinished before.
-  pub unfinished-before : (k j : ℕ) → after S minimum k .finished ≡ false → j ≤ k → after S minimum j .finished ≡ false
-  unfinished-before k j busy h = go (after S minimum j .finished) refl
-    where
-      go : (b : Bool) → after S minimum j .finished ≡ b → b ≡ false
-      go false e = refl
-      go true e = absurd (true≢false (sym e ∙ ap (λ (s : State). s .finished) (sym (finished-stays j k e h)) ∙ busy))
-
   -- Where each state before was unfinished, k visits made k steps.
   pub steps-busy : (k : ℕ) → ((j : ℕ) → j < k → after S minimum j .finished ≡ false) → after S minimum k .steps ≡ k
   unfolding after
   steps-busy zero busy = refl
   steps-busy (suc k) busy =
       omega (arith, visit-steps (after S minimum k) (busy k (omega arith)), steps-busy k (λ j h. busy j (omega arith)))
-
-  -- While the search is unfinished, k visits made k steps.
-  pub steps-unfinished : (k : ℕ) → after S minimum k .finished ≡ false → after S minimum k .steps ≡ k
-  steps-unfinished k busy = steps-busy k (λ j h. unfinished-before k j busy (omega arith))
 
   module _ {t : ℕ} (total : IsTotal S minimum t) where
     -- The search is finished exactly from the total on.
