@@ -1,6 +1,6 @@
 /* A search that goes on from run to run, through a file.
  *
- *     resume OLD NEW CHECKPOINT BUDGET [MINIMUM]
+ *     resume [--substitute LABEL:LABEL]... OLD NEW CHECKPOINT BUDGET [MINIMUM]
  *
  * OLD and NEW are graph files. Without a file CHECKPOINT the search starts, for mappings of at
  * least MINIMUM vertices (0 to 255; 0 if not given), else it goes on from there; either way for
@@ -8,16 +8,21 @@
  *
  *     cc -Iinclude examples/resume.c target/staticlib/libc_api.a -o resume
  *
- * BUDGET and MINIMUM are decimal numbers without sign or leading zero. A MINIMUM is refused if the
- * search in the file started with another one, and a file is refused if it was saved for other
- * graphs: a checkpoint alone does not tell of which graphs it is, and a finished one would give the
- * answer for those. `refused NUMBER (VALUE)` is a refusal of include/golfcedar.h. A run that is
- * refused leaves the file as it was.
+ * `--substitute 7:9` lets old vertices of label 7 be mapped to new ones of label 9 too; labels are
+ * 1 to 255, and at most 256 pairs may be given. Each run has to give the same ones, in the same
+ * order.
  *
- * The file has three parts: the bytes of the old graph, of the new graph and of the checkpoint,
- * each after its length, which takes two bytes, the lower first. The graphs stand there whole, so
- * that nothing rests on a digest; they count as the same if their bytes are. examples/resume.rs
- * reads and writes the same file.
+ * BUDGET, MINIMUM and each LABEL are decimal numbers without sign or leading zero. A MINIMUM is
+ * refused if the search in the file started with another one, and a file is refused if it was saved
+ * for other graphs or substitutes: a checkpoint alone does not tell of which it is, and a finished
+ * one would give the answer for those. `refused NUMBER (VALUE)` is a refusal of
+ * include/golfcedar.h. A run that is refused leaves the file as it was.
+ *
+ * The file has four parts: the bytes of the old graph, of the new graph, of the substitutes and of
+ * the checkpoint, each after its length, which takes two bytes, the lower first. The first three
+ * stand there whole, so that nothing rests on a digest; they count as the same if their bytes are.
+ * A file of three parts, from before there were substitutes, is read as one whose list is empty:
+ * that is what it was saved for. examples/resume.rs reads and writes the same file.
  */
 #include <errno.h>
 #include <inttypes.h>
@@ -29,7 +34,9 @@
 
 /* No graph has more bytes than this. */
 #define GRAPH_BYTES 8193
-#define SAVED_BYTES (2 + GRAPH_BYTES + 2 + GRAPH_BYTES + 2 + GOLFCEDAR_CHECKPOINT_BYTES)
+#define SAVED_BYTES                                                                                \
+    (2 + GRAPH_BYTES + 2 + GRAPH_BYTES + 2 + GOLFCEDAR_SUBSTITUTES_BYTES + 2 +                     \
+     GOLFCEDAR_CHECKPOINT_BYTES)
 
 /* Room for every file that can be accepted, and a byte more by which a longer one is refused. */
 struct bytes {
@@ -38,7 +45,7 @@ struct bytes {
 };
 
 struct search {
-    struct bytes old, new, checkpoint;
+    struct bytes old, new, substitutes, checkpoint;
     const char *file;
 };
 
@@ -73,6 +80,28 @@ static uint64_t number_or_exit(const char *what, const char *word, uint64_t larg
         exit(EXIT_FAILURE);
     }
     return number;
+}
+
+/* Two labels with a colon between, in the form in which they are printed. */
+static void add_substitute_or_exit(struct bytes *substitutes, const char *word)
+{
+    char printed[2 * 20 + 2];
+    char *end;
+    uint64_t from = strtoull(word, &end, 10);
+    uint64_t to = *end == ':' ? strtoull(end + 1, NULL, 10) : 0;
+    snprintf(printed, sizeof printed, "%" PRIu64 ":%" PRIu64, from, to);
+    if (strcmp(printed, word) != 0 || from < 1 || from > UINT8_MAX || to < 1 || to > UINT8_MAX) {
+        fprintf(stderr, "substitute '%s': not two numbers from 1 to 255 in plain form, as in 7:9\n",
+                word);
+        exit(EXIT_FAILURE);
+    }
+    if (substitutes->length == GOLFCEDAR_SUBSTITUTES_BYTES) {
+        fprintf(stderr, "substitute '%s': at most %d may be given\n", word,
+                GOLFCEDAR_SUBSTITUTES_BYTES / 2);
+        exit(EXIT_FAILURE);
+    }
+    substitutes->at[substitutes->length++] = from;
+    substitutes->at[substitutes->length++] = to;
 }
 
 /* Answers 0 if there is no such file. */
@@ -128,20 +157,38 @@ static int same(const struct bytes *one, const struct bytes *other)
     return one->length == other->length && memcmp(one->at, other->at, one->length) == 0;
 }
 
+/* Answers 0 if the parts are cut off, or more follows. No list ends as a checkpoint does, with a 0:
+ * so one that is cut off after the list is not taken for a file of three parts. */
+static int take_parts(const struct bytes *saved, struct bytes *old, struct bytes *new,
+                      struct bytes *substitutes, struct bytes *checkpoint)
+{
+    size_t place = 0;
+    if (!take_part(saved, &place, old) || !take_part(saved, &place, new) ||
+        !take_part(saved, &place, substitutes))
+        return 0;
+    if (place == saved->length && substitutes->length > 0 &&
+        substitutes->at[substitutes->length - 1] == 0) {
+        *checkpoint = *substitutes;
+        substitutes->length = 0;
+        return 1;
+    }
+    return take_part(saved, &place, checkpoint) && place == saved->length;
+}
+
 /* Answers 0 if there is no such file. */
 static int load_checkpoint(struct search *search)
 {
-    static struct bytes saved, old, new;
-    size_t place = 0;
+    static struct bytes saved, old, new, substitutes;
     if (!load("checkpoint", search->file, &saved))
         return 0;
-    if (!take_part(&saved, &place, &old) || !take_part(&saved, &place, &new) ||
-        !take_part(&saved, &place, &search->checkpoint) || place != saved.length)
+    if (!take_parts(&saved, &old, &new, &substitutes, &search->checkpoint))
         fail("checkpoint", search->file, "damaged, or not a file of this program");
     if (!same(&old, &search->old))
         fail("checkpoint", search->file, "saved for another old graph: name another file");
     if (!same(&new, &search->new))
         fail("checkpoint", search->file, "saved for another new graph: name another file");
+    if (!same(&substitutes, &search->substitutes))
+        fail("checkpoint", search->file, "saved for other substitutes: name another file");
     return 1;
 }
 
@@ -152,6 +199,7 @@ static void save_checkpoint(const struct search *search)
     saved.length = 0;
     put_part(&saved, &search->old);
     put_part(&saved, &search->new);
+    put_part(&saved, &search->substitutes);
     put_part(&saved, &search->checkpoint);
     char second[4096];
     int length = snprintf(second, sizeof second, "%s.saving", search->file);
@@ -168,10 +216,12 @@ static void save_checkpoint(const struct search *search)
 static void start(struct search *search, uint8_t minimum)
 {
     const struct bytes *old = &search->old, *new = &search->new;
+    const struct bytes *substitutes = &search->substitutes;
     struct bytes *checkpoint = &search->checkpoint;
     uint64_t value;
-    uint32_t number = golfcedar_start(old->at, old->length, new->at, new->length, minimum,
-                                      checkpoint->at, sizeof checkpoint->at, &value);
+    uint32_t number = golfcedar_start(old->at, old->length, new->at, new->length, substitutes->at,
+                                      substitutes->length, minimum, checkpoint->at,
+                                      sizeof checkpoint->at, &value);
     accept_or_exit("checkpoint", search->file, number, value);
     checkpoint->length = value;
 }
@@ -181,12 +231,12 @@ static void resume(struct search *search, uint64_t budget)
     static uint64_t workspace[GOLFCEDAR_WORKSPACE_WORDS];
     static struct bytes next;
     const struct bytes *old = &search->old, *new = &search->new;
-    const struct bytes *checkpoint = &search->checkpoint;
+    const struct bytes *substitutes = &search->substitutes, *checkpoint = &search->checkpoint;
     uint64_t value, ceiling;
-    uint32_t number = golfcedar_resume(old->at, old->length, new->at, new->length, checkpoint->at,
-                                       checkpoint->length, budget, workspace,
-                                       GOLFCEDAR_WORKSPACE_WORDS, next.at, sizeof next.at, &value,
-                                       &ceiling);
+    uint32_t number = golfcedar_resume(old->at, old->length, new->at, new->length, substitutes->at,
+                                       substitutes->length, checkpoint->at, checkpoint->length,
+                                       budget, workspace, GOLFCEDAR_WORKSPACE_WORDS, next.at,
+                                       sizeof next.at, &value, &ceiling);
     accept_or_exit("checkpoint", search->file, number, value);
     next.length = value;
     search->checkpoint = next;
@@ -195,10 +245,11 @@ static void resume(struct search *search, uint64_t budget)
 static struct reading read_out(const struct search *search)
 {
     const struct bytes *old = &search->old, *new = &search->new;
-    const struct bytes *checkpoint = &search->checkpoint;
+    const struct bytes *substitutes = &search->substitutes, *checkpoint = &search->checkpoint;
     struct reading reading;
     uint32_t number = golfcedar_read_out(old->at, old->length, new->at, new->length,
-                                         checkpoint->at, checkpoint->length, reading.mapping,
+                                         substitutes->at, substitutes->length, checkpoint->at,
+                                         checkpoint->length, reading.mapping,
                                          sizeof reading.mapping, &reading.state, &reading.steps,
                                          &reading.size, &reading.ceiling);
     accept_or_exit("checkpoint", search->file, number, reading.state);
@@ -249,8 +300,11 @@ static void print(const struct search *search)
 int main(int count, char **arguments)
 {
     static struct search search;
+    for (; count > 2 && strcmp(arguments[1], "--substitute") == 0; count -= 2, arguments += 2)
+        add_substitute_or_exit(&search.substitutes, arguments[2]);
     if (count != 5 && count != 6)
-        fail("resume", "needs", "OLD NEW CHECKPOINT BUDGET [MINIMUM]");
+        fail("resume", "needs",
+             "[--substitute LABEL:LABEL]... OLD NEW CHECKPOINT BUDGET [MINIMUM]");
     uint64_t budget = number_or_exit("budget", arguments[4], UINT64_MAX);
     uint64_t minimum = count == 6 ? number_or_exit("minimum", arguments[5], UINT8_MAX) : 0;
     load_graph("old graph", arguments[1], &search.old);

@@ -1,22 +1,27 @@
 //! A search that goes on from run to run, through a file.
 //!
-//!     resume OLD NEW CHECKPOINT BUDGET [MINIMUM]
+//!     resume [--substitute LABEL:LABEL]... OLD NEW CHECKPOINT BUDGET [MINIMUM]
 //!
 //! OLD and NEW are graph files. Without a file CHECKPOINT the search starts, for mappings of at
 //! least MINIMUM vertices (0 to 255; 0 if not given), else it goes on from there; either way for
 //! BUDGET visits. The file is saved, and what the search says so far is printed. Build it in
 //! `harness/` with `cargo build --bin resume`.
 //!
-//! BUDGET and MINIMUM are decimal numbers without sign or leading zero. A MINIMUM is refused if the
-//! search in the file started with another one, and a file is refused if it was saved for other
-//! graphs: a checkpoint alone does not tell of which graphs it is, and a finished one would give
-//! the answer for those. `refused NUMBER (VALUE)` is a refusal of include/golfcedar.h. A run that
-//! is refused leaves the file as it was.
+//! `--substitute 7:9` lets old vertices of label 7 be mapped to new ones of label 9 too; labels are
+//! 1 to 255, and at most 256 pairs may be given. Each run has to give the same ones, in the same
+//! order.
 //!
-//! The file has three parts: the bytes of the old graph, of the new graph and of the checkpoint,
-//! each after its length, which takes two bytes, the lower first. The graphs stand there whole, so
-//! that nothing rests on a digest; they count as the same if their bytes are. examples/resume.c
-//! reads and writes the same file.
+//! BUDGET, MINIMUM and each LABEL are decimal numbers without sign or leading zero. A MINIMUM is
+//! refused if the search in the file started with another one, and a file is refused if it was
+//! saved for other graphs or substitutes: a checkpoint alone does not tell of which it is, and a
+//! finished one would give the answer for those. `refused NUMBER (VALUE)` is a refusal of
+//! include/golfcedar.h. A run that is refused leaves the file as it was.
+//!
+//! The file has four parts: the bytes of the old graph, of the new graph, of the substitutes and of
+//! the checkpoint, each after its length, which takes two bytes, the lower first. The first three
+//! stand there whole, so that nothing rests on a digest; they count as the same if their bytes are.
+//! A file of three parts, from before there were substitutes, is read as one whose list is empty:
+//! that is what it was saved for. examples/resume.c reads and writes the same file.
 
 use std::env;
 use std::fmt::Display;
@@ -26,7 +31,11 @@ use std::process::ExitCode;
 use std::str::FromStr;
 
 use harness::answer::Answer;
-use harness::library::{self, CHECKPOINT_BYTES, MAX_VERTICES, UNMAPPED, WORKSPACE_WORDS};
+use harness::library::{self, CHECKPOINT_BYTES, MAX_VERTICES, NO_SUBSTITUTES};
+use harness::library::{SUBSTITUTES_BYTES, UNMAPPED, WORKSPACE_WORDS};
+
+const USAGE: &str =
+    "resume needs: [--substitute LABEL:LABEL]... OLD NEW CHECKPOINT BUDGET [MINIMUM]";
 
 fn main() -> ExitCode {
     let arguments: Vec<String> = env::args().skip(1).collect();
@@ -39,11 +48,19 @@ fn main() -> ExitCode {
     }
 }
 
-fn run(arguments: &[String]) -> Result<(), String> {
+fn run(mut arguments: &[String]) -> Result<(), String> {
+    let mut substitutes = Vec::new();
+    while let [option, word, rest @ ..] = arguments {
+        if option != "--substitute" {
+            break;
+        }
+        add_substitute(&mut substitutes, word)?;
+        arguments = rest;
+    }
     let (old, new, file, budget, minimum) = match arguments {
         [old, new, file, budget] => (old, new, file, budget, None),
         [old, new, file, budget, minimum] => (old, new, file, budget, Some(minimum)),
-        _ => return Err("resume needs: OLD NEW CHECKPOINT BUDGET [MINIMUM]".into()),
+        _ => return Err(USAGE.into()),
     };
     let budget = number("budget", budget, u64::MAX)?;
     let minimum = match minimum {
@@ -53,6 +70,7 @@ fn run(arguments: &[String]) -> Result<(), String> {
     let mut search = Search {
         old: load_graph("old graph", old)?,
         new: load_graph("new graph", new)?,
+        substitutes,
         checkpoint: Vec::new(),
         file,
     };
@@ -79,6 +97,29 @@ fn number<N: FromStr + Display>(what: &str, word: &str, largest: N) -> Result<N,
     }
 }
 
+/// Two labels with a colon between, in the form in which they are printed.
+fn add_substitute(substitutes: &mut Vec<u8>, word: &str) -> Result<(), String> {
+    let label = |word: &str| {
+        number("label", word, u8::MAX)
+            .ok()
+            .filter(|&label| label > 0)
+    };
+    let pair = word.split_once(':');
+    let Some((from, to)) = pair.and_then(|(from, to)| label(from).zip(label(to))) else {
+        return Err(format!(
+            "substitute '{word}': not two numbers from 1 to 255 in plain form, as in 7:9"
+        ));
+    };
+    if substitutes.len() == SUBSTITUTES_BYTES {
+        return Err(format!(
+            "substitute '{word}': at most {} may be given",
+            SUBSTITUTES_BYTES / 2
+        ));
+    }
+    substitutes.extend([from, to]);
+    Ok(())
+}
+
 fn load_graph(what: &str, name: &str) -> Result<Vec<u8>, String> {
     let graph = fs::read(name).map_err(|_| format!("{what} {name}: cannot be read"))?;
     accepted(what, name, library::check_graph(&graph))?;
@@ -96,14 +137,16 @@ fn accepted(what: &str, name: &str, answer: Answer) -> Result<Answer, String> {
     }
 }
 
-/// The three parts of a saved file, if it is in the form.
-fn parts(mut saved: &[u8]) -> Option<[&[u8]; 3]> {
-    let parts = [
-        take_part(&mut saved)?,
-        take_part(&mut saved)?,
-        take_part(&mut saved)?,
-    ];
-    saved.is_empty().then_some(parts)
+/// The four parts of a saved file, if it is in the form. No list ends as a checkpoint does, with a
+/// 0: so one that is cut off after the list is not taken for a file of three parts.
+fn parts(mut saved: &[u8]) -> Option<[&[u8]; 4]> {
+    let [old, new] = [take_part(&mut saved)?, take_part(&mut saved)?];
+    let third = take_part(&mut saved)?;
+    if saved.is_empty() && third.ends_with(&[0]) {
+        return Some([old, new, NO_SUBSTITUTES, third]);
+    }
+    let checkpoint = take_part(&mut saved)?;
+    saved.is_empty().then_some([old, new, third, checkpoint])
 }
 
 fn take_part<'a>(saved: &mut &'a [u8]) -> Option<&'a [u8]> {
@@ -118,10 +161,11 @@ fn put_part(saved: &mut Vec<u8>, part: &[u8]) {
     saved.extend(part);
 }
 
-/// The bytes of two graphs and of a checkpoint, and the file where these are kept.
+/// The bytes of two graphs, of substitutes and of a checkpoint, and the file where these are kept.
 struct Search<'a> {
     old: Vec<u8>,
     new: Vec<u8>,
+    substitutes: Vec<u8>,
     checkpoint: Vec<u8>,
     file: &'a str,
 }
@@ -142,7 +186,7 @@ impl Search<'_> {
             Err(error) if error.kind() == ErrorKind::NotFound => return Ok(false),
             Err(_) => return Err(self.failure("cannot be read")),
         };
-        let Some([old, new, checkpoint]) = parts(&saved) else {
+        let Some([old, new, substitutes, checkpoint]) = parts(&saved) else {
             return Err(self.failure("damaged, or not a file of this program"));
         };
         if old != self.old {
@@ -150,6 +194,9 @@ impl Search<'_> {
         }
         if new != self.new {
             return Err(self.failure("saved for another new graph: name another file"));
+        }
+        if substitutes != self.substitutes {
+            return Err(self.failure("saved for other substitutes: name another file"));
         }
         self.checkpoint = checkpoint.to_vec();
         Ok(true)
@@ -160,6 +207,7 @@ impl Search<'_> {
         let mut saved = Vec::new();
         put_part(&mut saved, &self.old);
         put_part(&mut saved, &self.new);
+        put_part(&mut saved, &self.substitutes);
         put_part(&mut saved, &self.checkpoint);
         let second = format!("{}.saving", self.file);
         fs::write(&second, saved)
@@ -169,7 +217,13 @@ impl Search<'_> {
 
     fn start(&mut self, minimum: u8) -> Result<(), String> {
         let mut checkpoint = vec![0; CHECKPOINT_BYTES];
-        let answer = library::start(&self.old, &self.new, minimum, &mut checkpoint);
+        let answer = library::start(
+            &self.old,
+            &self.new,
+            &self.substitutes,
+            minimum,
+            &mut checkpoint,
+        );
         checkpoint.truncate(self.accepted(answer)?.value as usize);
         self.checkpoint = checkpoint;
         Ok(())
@@ -181,6 +235,7 @@ impl Search<'_> {
         let answer = library::resume(
             &self.old,
             &self.new,
+            &self.substitutes,
             &self.checkpoint,
             budget,
             &mut workspace,
@@ -195,6 +250,7 @@ impl Search<'_> {
         self.accepted(library::read_out(
             &self.old,
             &self.new,
+            &self.substitutes,
             &self.checkpoint,
             mapping,
         ))

@@ -2,7 +2,7 @@
  *
  * Link with libc_api.a (`rt staticlib c_api`). Every function here is proved against a definition in crates/c_api/specs/.
  *
- * Graphs, mappings and checkpoints are plain bytes; README.md has their forms. The caller owns every buffer: nothing is kept after
+ * Graphs, substitutes, mappings and checkpoints are plain bytes; README.md has their forms. The caller owns every buffer: nothing is kept after
  * a call returns, nothing is allocated. A pointer with a length of 0 may be any non-null pointer. What is written, buffers and number
  * results alike, must not overlap anything else that is lent to the same call. A call uses at most 320 kibibytes of stack (tested, not proved).
  * Several threads may call at the same time, if what one call writes is lent to no other call meanwhile; what calls only read may be shared.
@@ -20,17 +20,24 @@
  *            given already                                                               place
  *    9       bytes after the end                                                         place
  *    13      what is to be written does not fit into its buffer                          0
- *    14      the checkpoint is not in shape for these two graphs                         0
+ *    14      the checkpoint is not in shape for these graphs and this list               0
  *    15      fewer than 4,160 workspace words                                            0
  *    16      unfinished, and steps + budget above 2^64 - 1                               0
  *    17      checkpoint bytes not in the form                                            place
  *    18      a mapping whose length is not the number of old vertices                    0
- *    19, 21  of a mapping's row: no new vertex; labels differ                            row
+ *    19, 21  of a mapping's row: no new vertex; labels do not agree                      row
  *    20, 22  against an earlier row: the same new vertex; edges differ                   row (`earlier` has the earlier one)
+ *    23      substitutes of odd length, or of more than 512 bytes                        0
+ *    24      a label 0 among the substitutes                                             0
  *
  * A place is an offset: that of the command at fault, of the first byte that cannot stand there, or the length where the end is missing.
  * 10, 11 and 12, of lent tables, are never given. Where two graphs are given, the old one is read first; if `golfcedar_check_graph` accepts the old one, a
  * number from 1 to 9 is about the new one.
+ *
+ * `substitutes` says which vertex labels agree beside equal ones, which always do: pairs of bytes, the label of an old vertex, then the label of a new vertex
+ * that may stand in for it; at most 256 pairs. A pair holds one way only, and pairs do not chain: by 7 8 8 9 an old 7 does not agree with a new 9. A list of
+ * length 0 says that only equal labels agree. Edges never read it: their labels must be equal. Calls that resume one another take the same bytes: a checkpoint
+ * made under another list may be refused with 14, or be accepted, and then the ceiling is not promised.
  */
 #ifndef GOLFCEDAR_H
 #define GOLFCEDAR_H
@@ -46,6 +53,8 @@ extern "C" {
 #define GOLFCEDAR_CHECKPOINT_BYTES 270
 /* A search call needs this many words of 64 bits. */
 #define GOLFCEDAR_WORKSPACE_WORDS 4160
+/* Substitutes have at most this many bytes, two for each pair. */
+#define GOLFCEDAR_SUBSTITUTES_BYTES 512
 /* In a mapping: an old vertex that is left out. */
 #define GOLFCEDAR_UNMAPPED 255
 
@@ -53,31 +62,34 @@ extern "C" {
 uint32_t golfcedar_check_graph(const uint8_t *graph, size_t graph_len, uint64_t *value);
 
 /* Is this mapping, one byte for each old vertex, a common subgraph? Accepted: *value is its size, *earlier is 0.
- * Refused: 1 to 9; 18; 19 to 22. So it also tells why a vertex cannot stay: map it to the new vertex in question, and the number and the rows
+ * Refused: 1 to 9; 23; 24; 18; 19 to 22. So it also tells why a vertex cannot stay: map it to the new vertex in question, and the number and the rows
  * say what is against it. */
 uint32_t golfcedar_check_mapping(const uint8_t *old_graph, size_t old_len, const uint8_t *new_graph, size_t new_len,
-                                 const uint8_t *mapping, size_t mapping_len, uint64_t *value, uint64_t *earlier);
+                                 const uint8_t *substitutes, size_t substitutes_len, const uint8_t *mapping, size_t mapping_len,
+                                 uint64_t *value, uint64_t *earlier);
 
 /* A search that has not begun: only mappings of at least `minimum` vertices will be found. Accepted: its checkpoint stands in the first
- * *value bytes of `checkpoint`, and later bytes are untouched. Refused: 1 to 9; 13 if it does not fit, never with 270 bytes. */
-uint32_t golfcedar_start(const uint8_t *old_graph, size_t old_len, const uint8_t *new_graph, size_t new_len, uint8_t minimum,
-                         uint8_t *checkpoint, size_t checkpoint_len, uint64_t *value);
+ * *value bytes of `checkpoint`, and later bytes are untouched. Refused: 1 to 9; 23; 24; 13 if it does not fit, never with 270 bytes. */
+uint32_t golfcedar_start(const uint8_t *old_graph, size_t old_len, const uint8_t *new_graph, size_t new_len,
+                         const uint8_t *substitutes, size_t substitutes_len, uint8_t minimum, uint8_t *checkpoint, size_t checkpoint_len,
+                         uint64_t *value);
 
 /* Goes on with a search for `budget` visits, fewer only if it finishes. `checkpoint` has exactly the bytes that an earlier call wrote.
  * Accepted: the next checkpoint stands in the first *value bytes of `next`, later bytes are untouched; every common subgraph has fewer than
- * *ceiling vertices (if the search began with `golfcedar_start` on the same two graphs); the first 4,160 words of `workspace` are 0, later words
- * are untouched. Refused: 1 to 9; 17; 14; 15; 16; 13 if the next checkpoint does not fit, never with 270 bytes. How long it is shows only when the visits
- * are made, so lend 270: after 13 the search stands where it stood, and the visits have to be made again. */
+ * *ceiling vertices (if the search began with `golfcedar_start`, and all its calls took the same two graphs and substitutes); the first 4,160 words of
+ * `workspace` are 0, later words are untouched. Refused: 1 to 9; 23; 24; 17; 14; 15; 16; 13 if the next checkpoint does not fit, never with 270 bytes. How long
+ * it is shows only when the visits are made, so lend 270: after 13 the search stands where it stood, and the visits have to be made again. */
 uint32_t golfcedar_resume(const uint8_t *old_graph, size_t old_len, const uint8_t *new_graph, size_t new_len,
-                          const uint8_t *checkpoint, size_t checkpoint_len, uint64_t budget, uint64_t *workspace, size_t workspace_words,
-                          uint8_t *next, size_t next_len, uint64_t *value, uint64_t *ceiling);
+                          const uint8_t *substitutes, size_t substitutes_len, const uint8_t *checkpoint, size_t checkpoint_len,
+                          uint64_t budget, uint64_t *workspace, size_t workspace_words, uint8_t *next, size_t next_len, uint64_t *value,
+                          uint64_t *ceiling);
 
 /* What a checkpoint says. Accepted: *value is its state (0 unfinished, 1 unfinished with a mapping held, 2 finished, 3 finished with one), *steps the
  * visits made, *ceiling as `golfcedar_resume` gives it. If a mapping is held, *size is its size, and one byte for each old vertex is stored to `mapping`;
- * else *size is 0 and `mapping` is untouched. Refused: 1 to 9; 17; 14; 13 if a mapping is held and has more bytes than `mapping`, never with 64 bytes. */
+ * else *size is 0 and `mapping` is untouched. Refused: 1 to 9; 23; 24; 17; 14; 13 if a mapping is held and has more bytes than `mapping`, never with 64 bytes. */
 uint32_t golfcedar_read_out(const uint8_t *old_graph, size_t old_len, const uint8_t *new_graph, size_t new_len,
-                            const uint8_t *checkpoint, size_t checkpoint_len, uint8_t *mapping, size_t mapping_len, uint64_t *value,
-                            uint64_t *steps, uint64_t *size, uint64_t *ceiling);
+                            const uint8_t *substitutes, size_t substitutes_len, const uint8_t *checkpoint, size_t checkpoint_len,
+                            uint8_t *mapping, size_t mapping_len, uint64_t *value, uint64_t *steps, uint64_t *size, uint64_t *ceiling);
 
 #ifdef __cplusplus
 }

@@ -26,9 +26,15 @@ fn is_common(problem: &Problem, list: &[u8]) -> bool {
         .filter(|&row| list[row] != UNMAPPED)
         .map(|row| (row, list[row].into()))
         .collect();
-    let Problem { old, new } = problem;
+    let Problem { old, new, .. } = problem;
+    // read here again, and not by the reference: an old label, and those that it agrees with
+    let agreeing = |label: u8| {
+        let listed = problem.substitutes.pairs.iter();
+        let listed = listed.filter(move |[from, _]| *from == label);
+        [label].into_iter().chain(listed.map(|&[_, to]| to))
+    };
     pairs.iter().all(|&(x, y)| {
-        old.label(x) == new.label(y)
+        agreeing(old.label(x)).any(|label| label == new.label(y))
             && pairs.iter().all(|&(other_x, other_y)| {
                 x == other_x || (y != other_y && old.edge(x, other_x) == new.edge(y, other_y))
             })

@@ -12,10 +12,10 @@ use crate::{library, reference};
 pub struct Implementation {
     pub name: &'static str,
     pub check_graph: fn(&[u8]) -> Answer,
-    pub check_mapping: fn(&[u8], &[u8], &[u8]) -> Answer,
-    pub start: fn(&[u8], &[u8], u8, &mut [u8]) -> Answer,
-    pub resume: fn(&[u8], &[u8], &[u8], u64, &mut [u64], &mut [u8]) -> Answer,
-    pub read_out: fn(&[u8], &[u8], &[u8], &mut [u8]) -> Answer,
+    pub check_mapping: fn(&[u8], &[u8], &[u8], &[u8]) -> Answer,
+    pub start: fn(&[u8], &[u8], &[u8], u8, &mut [u8]) -> Answer,
+    pub resume: fn(&[u8], &[u8], &[u8], &[u8], u64, &mut [u64], &mut [u8]) -> Answer,
+    pub read_out: fn(&[u8], &[u8], &[u8], &[u8], &mut [u8]) -> Answer,
 }
 
 pub const LIBRARY: Implementation = Implementation {
@@ -95,26 +95,31 @@ impl<T: Display + PartialEq> Display for Listed<'_, T> {
     }
 }
 
+/// The bytes that each call on two graphs begins with, sound or not.
+#[derive(Clone, Debug, PartialEq, Eq)]
+pub struct Given {
+    pub old: Vec<u8>,
+    pub new: Vec<u8>,
+    pub substitutes: Vec<u8>,
+}
+
 #[derive(Clone, Debug, PartialEq, Eq)]
 pub enum Call {
     CheckGraph {
         graph: Vec<u8>,
     },
     CheckMapping {
-        old: Vec<u8>,
-        new: Vec<u8>,
+        given: Given,
         mapping: Vec<u8>,
     },
     Start {
-        old: Vec<u8>,
-        new: Vec<u8>,
+        given: Given,
         minimum: u8,
         checkpoint: Buffer<u8>,
     },
     Resume(Resume),
     ReadOut {
-        old: Vec<u8>,
-        new: Vec<u8>,
+        given: Given,
         checkpoint: Vec<u8>,
         mapping: Buffer<u8>,
     },
@@ -122,8 +127,7 @@ pub enum Call {
 
 #[derive(Clone, Debug, PartialEq, Eq)]
 pub struct Resume {
-    pub old: Vec<u8>,
-    pub new: Vec<u8>,
+    pub given: Given,
     pub checkpoint: Vec<u8>,
     pub budget: u64,
     pub workspace: Buffer<u64>,
@@ -158,29 +162,65 @@ impl Call {
         let mut memory = self.clone();
         let answer = match &mut memory {
             Call::CheckGraph { graph } => (by.check_graph)(graph),
-            Call::CheckMapping { old, new, mapping } => (by.check_mapping)(old, new, mapping),
+            Call::CheckMapping { given, mapping } => {
+                (by.check_mapping)(&given.old, &given.new, &given.substitutes, mapping)
+            }
             Call::Start {
-                old,
-                new,
+                given,
                 minimum,
                 checkpoint,
-            } => (by.start)(old, new, *minimum, checkpoint.lend()),
+            } => (by.start)(
+                &given.old,
+                &given.new,
+                &given.substitutes,
+                *minimum,
+                checkpoint.lend(),
+            ),
             Call::Resume(call) => (by.resume)(
-                &call.old,
-                &call.new,
+                &call.given.old,
+                &call.given.new,
+                &call.given.substitutes,
                 &call.checkpoint,
                 call.budget,
                 call.workspace.lend(),
                 call.next.lend(),
             ),
             Call::ReadOut {
-                old,
-                new,
+                given,
                 checkpoint,
                 mapping,
-            } => (by.read_out)(old, new, checkpoint, mapping.lend()),
+            } => (by.read_out)(
+                &given.old,
+                &given.new,
+                &given.substitutes,
+                checkpoint,
+                mapping.lend(),
+            ),
         };
         Outcome { answer, memory }
+    }
+
+    /// None where the call is on a single graph.
+    pub fn given(&self) -> Option<&Given> {
+        match self {
+            Call::CheckGraph { .. } => None,
+            Call::CheckMapping { given, .. }
+            | Call::Start { given, .. }
+            | Call::Resume(Resume { given, .. })
+            | Call::ReadOut { given, .. } => Some(given),
+        }
+    }
+
+    /// This call with the empty list.
+    pub fn without_substitutes(mut self) -> Call {
+        match &mut self {
+            Call::CheckGraph { .. } => {}
+            Call::CheckMapping { given, .. }
+            | Call::Start { given, .. }
+            | Call::Resume(Resume { given, .. })
+            | Call::ReadOut { given, .. } => given.substitutes.clear(),
+        }
+        self
     }
 
     fn function(&self) -> &'static str {
@@ -195,44 +235,45 @@ impl Call {
 
     /// Each argument by name, as it is printed.
     fn arguments(&self) -> Vec<(&'static str, String)> {
+        let mut arguments = Vec::new();
+        if let Some(given) = self.given() {
+            arguments.extend([
+                ("old_graph", Listed(&given.old).to_string()),
+                ("new_graph", Listed(&given.new).to_string()),
+                ("substitutes", Listed(&given.substitutes).to_string()),
+            ]);
+        }
         match self {
-            Call::CheckGraph { graph } => vec![("graph", Listed(graph).to_string())],
-            Call::CheckMapping { old, new, mapping } => vec![
-                ("old_graph", Listed(old).to_string()),
-                ("new_graph", Listed(new).to_string()),
-                ("mapping", Listed(mapping).to_string()),
-            ],
+            Call::CheckGraph { graph } => {
+                arguments.push(("graph", Listed(graph).to_string()));
+            }
+            Call::CheckMapping { mapping, .. } => {
+                arguments.push(("mapping", Listed(mapping).to_string()));
+            }
             Call::Start {
-                old,
-                new,
                 minimum,
                 checkpoint,
-            } => vec![
-                ("old_graph", Listed(old).to_string()),
-                ("new_graph", Listed(new).to_string()),
+                ..
+            } => arguments.extend([
                 ("minimum", minimum.to_string()),
                 ("checkpoint", checkpoint.to_string()),
-            ],
-            Call::Resume(call) => vec![
-                ("old_graph", Listed(&call.old).to_string()),
-                ("new_graph", Listed(&call.new).to_string()),
+            ]),
+            Call::Resume(call) => arguments.extend([
                 ("checkpoint", Listed(&call.checkpoint).to_string()),
                 ("budget", call.budget.to_string()),
                 ("workspace", call.workspace.to_string()),
                 ("next", call.next.to_string()),
-            ],
+            ]),
             Call::ReadOut {
-                old,
-                new,
                 checkpoint,
                 mapping,
-            } => vec![
-                ("old_graph", Listed(old).to_string()),
-                ("new_graph", Listed(new).to_string()),
+                ..
+            } => arguments.extend([
                 ("checkpoint", Listed(checkpoint).to_string()),
                 ("mapping", mapping.to_string()),
-            ],
+            ]),
         }
+        arguments
     }
 }
 

@@ -1,13 +1,20 @@
-//! Random inputs: graphs and their bytes, mappings, checkpoints, and damage to each.
+//! Random inputs: graphs and their bytes, lists of substitutes, mappings, checkpoints, and damage
+//! to each.
 
 use std::ops::Range;
 
 use crate::random::Random;
 use crate::reference::{entries_from_bytes, entries_to_bytes, size, Checkpoint, Entry};
-use crate::reference::{Graph, Node, Problem, MAX_VERTICES, UNMAPPED};
+use crate::reference::{Graph, Node, Problem, Substitutes, MAX_VERTICES, UNMAPPED};
 
 /// The end of a range that has every number of vertices in it.
 pub const ANY_ORDER: usize = MAX_VERTICES + 1;
+
+/// The labels of random graphs.
+const ALPHABET: [u8; 7] = [1, 2, 7, 9, 64, 200, 255];
+/// Labels that none of their vertices has.
+const UNUSED: [u8; 3] = [3, 8, 254];
+const MAX_PAIRS: usize = 256;
 
 /// What the graphs of one problem have in common.
 pub struct Style {
@@ -19,7 +26,7 @@ pub struct Style {
 
 impl Style {
     pub fn random(random: &mut Random) -> Style {
-        let mut alphabet = [1, 2, 7, 9, 64, 200, 255];
+        let mut alphabet = ALPHABET;
         random.shuffle(&mut alphabet);
         let vertex_labels = alphabet[..random.pick(&[1, 1, 2, 2, 3])].to_vec();
         random.shuffle(&mut alphabet);
@@ -50,18 +57,154 @@ pub fn graph(random: &mut Random, style: &Style, order: usize) -> Graph {
     graph
 }
 
-/// Two graphs of the same style; at times the new one is a part of the old one, shuffled.
+/// Two graphs of the same style; at times the new one is a part of the old one, shuffled, and at
+/// times it has newer labels.
 pub fn problem(random: &mut Random, orders: Range<usize>) -> Problem {
     let style = Style::random(random);
     let order = random.within(orders.clone());
     let old = graph(random, &style, order);
-    let new = if random.percent(30) {
+    let mut new = if random.percent(30) {
         shuffled_part(random, &old)
     } else {
         let order = random.within(orders);
         graph(random, &style, order)
     };
-    Problem { old, new }
+    // without a list, graphs with other labels seldom have more than an empty mapping in common
+    let mut empty = 50;
+    if random.percent(40) {
+        new = relabelled(random, &new);
+        empty = 10;
+    }
+    let substitutes = substitutes(random, &old, &new, empty);
+    Problem {
+        old,
+        new,
+        substitutes,
+    }
+}
+
+/// Every label in the place of another one, or of itself.
+fn relabelled(random: &mut Random, graph: &Graph) -> Graph {
+    let mut newer = ALPHABET;
+    random.shuffle(&mut newer);
+    let mut relabelled = Graph::default();
+    for vertex in 0..graph.order() {
+        let number = ALPHABET.iter().position(|&l| l == graph.label(vertex));
+        let label = newer[number.expect("a label of the alphabet")];
+        relabelled.add_vertex(label).unwrap();
+    }
+    for (a, b, label) in graph.edges() {
+        relabelled.add_edge(a, b, label).unwrap();
+    }
+    relabelled
+}
+
+/// A sound list: at a chance in percent empty, else mostly short, or with other pairs around the
+/// few that tell, up to as many as a list may have.
+fn substitutes(random: &mut Random, old: &Graph, new: &Graph, empty: usize) -> Substitutes {
+    let mut pairs = Vec::new();
+    if random.percent(empty) {
+        return Substitutes { pairs };
+    }
+    for _ in 0..random.within(1..6) {
+        let more = some_pairs(random, old, new, &pairs);
+        pairs.extend(more);
+    }
+    if random.percent(25) {
+        let any_length = random.within(pairs.len()..MAX_PAIRS);
+        let length = random.pick(&[any_length, MAX_PAIRS - 1, MAX_PAIRS, MAX_PAIRS]);
+        let place = random.within(0..pairs.len() + 1);
+        let place = random.pick(&[0, 0, place, pairs.len()]);
+        let other = [random.pick(&UNUSED), random.pick(&ALPHABET)];
+        let others = vec![other; length - pairs.len()];
+        pairs.splice(place..place, others);
+    }
+    Substitutes { pairs }
+}
+
+/// A pair of labels that occur, turned or not; or two that would have to be chained; or one of
+/// equal labels, or with a label that does not occur; or one that is there already.
+fn some_pairs(random: &mut Random, old: &Graph, new: &Graph, before: &[[u8; 2]]) -> Vec<[u8; 2]> {
+    let (from, to) = (label_of(random, old), label_of(random, new));
+    let unused = random.pick(&UNUSED);
+    match random.within(0..12) {
+        0 => vec![[to, from]],
+        1 => vec![[from, unused], [unused, to]],
+        2 => vec![[unused, to], [from, unused]],
+        3 => vec![[from, from]],
+        4 => vec![[to, to]],
+        5 => vec![[from, unused]],
+        6 => vec![[unused, to]],
+        7 if !before.is_empty() => vec![random.pick(before)],
+        _ => vec![[from, to]],
+    }
+}
+
+/// Of any vertex.
+fn label_of(random: &mut Random, graph: &Graph) -> u8 {
+    match graph.order() {
+        0 => random.pick(&ALPHABET),
+        order => graph.label(random.within(0..order)),
+    }
+}
+
+/// Another sound list: a pair less or more, the pairs turned or in another order, none, or any.
+pub fn other_substitutes(random: &mut Random, problem: &Problem) -> Substitutes {
+    let Problem {
+        old,
+        new,
+        substitutes: Substitutes { pairs },
+    } = problem;
+    let mut pairs = pairs.clone();
+    match random.within(0..7) {
+        0 => pairs.clear(),
+        1 | 2 if !pairs.is_empty() => drop(pairs.remove(random.within(0..pairs.len()))),
+        3 => pairs.iter_mut().for_each(|pair| pair.reverse()),
+        4 => pairs.reverse(),
+        5 => {
+            let more = some_pairs(random, old, new, &pairs);
+            pairs.extend(more);
+            pairs.truncate(MAX_PAIRS);
+        }
+        _ => return substitutes(random, old, new, 0),
+    }
+    Substitutes { pairs }
+}
+
+/// Makes a sound list unsound: by its length, by a label 0, or by both.
+pub fn spoil_substitutes(random: &mut Random, bytes: &mut Vec<u8>) {
+    let which = random.within(0..10);
+    if which < 6 {
+        spoil_length(random, bytes);
+    }
+    if which >= 4 {
+        put_zero(random, bytes);
+    }
+}
+
+fn spoil_length(random: &mut Random, bytes: &mut Vec<u8>) {
+    let label = random.pick(&ALPHABET);
+    match random.within(0..5) {
+        0 => bytes.resize(2 * MAX_PAIRS + 1, label),
+        1 => bytes.resize(2 * MAX_PAIRS + 2, label),
+        2 => bytes.resize(
+            2 * MAX_PAIRS + random.pick(&[3, 4, 88, 512, 513, 8000, 65_024]),
+            label,
+        ),
+        3 if !bytes.is_empty() => drop(bytes.pop()),
+        _ => bytes.push(label),
+    }
+}
+
+/// In an old label's place or in a new one's, at either end or anywhere.
+fn put_zero(random: &mut Random, bytes: &mut Vec<u8>) {
+    if bytes.is_empty() {
+        bytes.extend([random.pick(&ALPHABET); 2]);
+    }
+    let last = bytes.len() - 1;
+    let anywhere = random.within(0..bytes.len());
+    let place = random.pick(&[0, 1.min(last), last.saturating_sub(1), last, anywhere]);
+    bytes[place] = 0;
 }
 
 fn shuffled_part(random: &mut Random, whole: &Graph) -> Graph {

@@ -205,14 +205,32 @@ impl Search {
 }
 
 fn root(problem: &Problem) -> Level {
-    let Problem { old, new } = problem;
-    let alike = |row| set((0..new.order()).filter(|&vertex| new.label(vertex) == old.label(row)));
-    array::from_fn(|row| if row < old.order() { alike(row) } else { 0 })
+    let Problem {
+        old,
+        new,
+        substitutes,
+    } = problem;
+    let mut labelled = [0; 256];
+    for vertex in 0..new.order() {
+        labelled[usize::from(new.label(vertex))] |= 1 << vertex;
+    }
+    let mut agreeing = labelled;
+    for &[from, to] in &substitutes.pairs {
+        agreeing[usize::from(from)] |= labelled[usize::from(to)];
+    }
+    let candidates = |row| agreeing[usize::from(old.label(row))];
+    array::from_fn(|row| {
+        if row < old.order() {
+            candidates(row)
+        } else {
+            0
+        }
+    })
 }
 
 impl Tables {
     fn new(problem: &Problem) -> Tables {
-        let Problem { old, new } = problem;
+        let Problem { old, new, .. } = problem;
         let mut labels: Vec<u8> = old.edges().map(|(_, _, label)| label).chain([0]).collect();
         labels.sort();
         labels.dedup();

@@ -13,6 +13,8 @@ mod c {
             old_len: usize,
             new_graph: *const u8,
             new_len: usize,
+            substitutes: *const u8,
+            substitutes_len: usize,
             mapping: *const u8,
             mapping_len: usize,
             value: *mut u64,
@@ -24,6 +26,8 @@ mod c {
             old_len: usize,
             new_graph: *const u8,
             new_len: usize,
+            substitutes: *const u8,
+            substitutes_len: usize,
             minimum: u8,
             checkpoint: *mut u8,
             checkpoint_len: usize,
@@ -35,6 +39,8 @@ mod c {
             old_len: usize,
             new_graph: *const u8,
             new_len: usize,
+            substitutes: *const u8,
+            substitutes_len: usize,
             checkpoint: *const u8,
             checkpoint_len: usize,
             budget: u64,
@@ -51,6 +57,8 @@ mod c {
             old_len: usize,
             new_graph: *const u8,
             new_len: usize,
+            substitutes: *const u8,
+            substitutes_len: usize,
             checkpoint: *const u8,
             checkpoint_len: usize,
             mapping: *mut u8,
@@ -65,6 +73,9 @@ mod c {
 
 pub const CHECKPOINT_BYTES: usize = 270;
 pub const WORKSPACE_WORDS: usize = 4160;
+pub const SUBSTITUTES_BYTES: usize = 512;
+/// By this list only equal labels agree.
+pub const NO_SUBSTITUTES: &[u8] = &[];
 pub const MAX_VERTICES: usize = 64;
 pub const UNMAPPED: u8 = 255;
 
@@ -81,7 +92,7 @@ pub fn check_graph(graph: &[u8]) -> Answer {
     }
 }
 
-pub fn check_mapping(old: &[u8], new: &[u8], mapping: &[u8]) -> Answer {
+pub fn check_mapping(old: &[u8], new: &[u8], substitutes: &[u8], mapping: &[u8]) -> Answer {
     let [mut value, mut earlier] = [NOT_STORED; 2];
     let number = unsafe {
         c::golfcedar_check_mapping(
@@ -89,6 +100,8 @@ pub fn check_mapping(old: &[u8], new: &[u8], mapping: &[u8]) -> Answer {
             old.len(),
             new.as_ptr(),
             new.len(),
+            substitutes.as_ptr(),
+            substitutes.len(),
             mapping.as_ptr(),
             mapping.len(),
             &raw mut value,
@@ -103,7 +116,13 @@ pub fn check_mapping(old: &[u8], new: &[u8], mapping: &[u8]) -> Answer {
     }
 }
 
-pub fn start(old: &[u8], new: &[u8], minimum: u8, checkpoint: &mut [u8]) -> Answer {
+pub fn start(
+    old: &[u8],
+    new: &[u8],
+    substitutes: &[u8],
+    minimum: u8,
+    checkpoint: &mut [u8],
+) -> Answer {
     let mut value = NOT_STORED;
     let number = unsafe {
         c::golfcedar_start(
@@ -111,6 +130,8 @@ pub fn start(old: &[u8], new: &[u8], minimum: u8, checkpoint: &mut [u8]) -> Answ
             old.len(),
             new.as_ptr(),
             new.len(),
+            substitutes.as_ptr(),
+            substitutes.len(),
             minimum,
             checkpoint.as_mut_ptr(),
             checkpoint.len(),
@@ -127,6 +148,7 @@ pub fn start(old: &[u8], new: &[u8], minimum: u8, checkpoint: &mut [u8]) -> Answ
 pub fn resume(
     old: &[u8],
     new: &[u8],
+    substitutes: &[u8],
     checkpoint: &[u8],
     budget: u64,
     workspace: &mut [u64],
@@ -139,6 +161,8 @@ pub fn resume(
             old.len(),
             new.as_ptr(),
             new.len(),
+            substitutes.as_ptr(),
+            substitutes.len(),
             checkpoint.as_ptr(),
             checkpoint.len(),
             budget,
@@ -158,7 +182,13 @@ pub fn resume(
     }
 }
 
-pub fn read_out(old: &[u8], new: &[u8], checkpoint: &[u8], mapping: &mut [u8]) -> Answer {
+pub fn read_out(
+    old: &[u8],
+    new: &[u8],
+    substitutes: &[u8],
+    checkpoint: &[u8],
+    mapping: &mut [u8],
+) -> Answer {
     let [mut value, mut steps, mut size, mut ceiling] = [NOT_STORED; 4];
     let number = unsafe {
         c::golfcedar_read_out(
@@ -166,6 +196,8 @@ pub fn read_out(old: &[u8], new: &[u8], checkpoint: &[u8], mapping: &mut [u8]) -
             old.len(),
             new.as_ptr(),
             new.len(),
+            substitutes.as_ptr(),
+            substitutes.len(),
             checkpoint.as_ptr(),
             checkpoint.len(),
             mapping.as_mut_ptr(),

@@ -4,7 +4,7 @@
 use std::collections::BTreeMap;
 
 use crate::random::Random;
-use crate::reference::{Graph, Problem};
+use crate::reference::{Graph, Problem, Substitutes};
 
 const EDGE_LABELS: [u8; 3] = [1, 2, 3];
 /// One vertex in so many is changed in the copy.
@@ -20,7 +20,11 @@ pub fn problem(random: &mut Random, order: usize, vertex_labels: u8) -> Problem 
     let old = panel.graph(&numbers);
     random.shuffle(&mut numbers);
     let new = copy.graph(&numbers);
-    Problem { old, new }
+    Problem {
+        old,
+        new,
+        substitutes: Substitutes::default(),
+    }
 }
 
 #[derive(Clone)]

@@ -1,10 +1,12 @@
-//! The second implementation: 01's rules, plain and recursive, one definition for each sentence.
+//! The second implementation: the rules of 01 and 02, plain and recursive, one definition for each
+//! sentence.
 
 mod calls;
 mod checkpoint;
 mod graph;
 mod mapping;
 mod search;
+mod substitutes;
 
 pub use calls::{check_graph, check_mapping, read_out, resume, start};
 pub use calls::{CHECKPOINT_BYTES, WORKSPACE_WORDS};
@@ -12,8 +14,9 @@ pub use checkpoint::Checkpoint;
 pub use graph::{Graph, Problem, MAX_VERTICES};
 pub use mapping::{check, entries_from_bytes, entries_to_bytes, size, Entry, UNMAPPED};
 pub use search::{advance, ceiling, Node};
+pub use substitutes::Substitutes;
 
-/// Why an input is refused, by 01's number.
+/// Why an input is refused, by its number in 01 or 02.
 #[derive(Clone, Copy, Debug, PartialEq, Eq)]
 pub enum Reason {
     CutOff = 1,
@@ -35,6 +38,8 @@ pub enum Reason {
     SameNewVertex = 20,
     LabelsDiffer = 21,
     EdgesDiffer = 22,
+    SubstitutesLength = 23,
+    SubstituteLabelZero = 24,
 }
 
 /// A reason with the place or row that 01 gives along with it, 0 where it gives none.

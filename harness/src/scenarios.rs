@@ -6,12 +6,12 @@ use std::ops::RangeInclusive;
 
 use crate::answer::Answer;
 use crate::brute;
-use crate::call::{Buffer, Call, Outcome, Resume, LIBRARY, REFERENCE};
+use crate::call::{Buffer, Call, Given, Outcome, Resume, LIBRARY, REFERENCE};
 use crate::cases::{self, ANY_ORDER};
 use crate::fast;
 use crate::random::Random;
 use crate::reference::{advance, entries_from_bytes, entries_to_bytes, Checkpoint, Problem};
-use crate::reference::{CHECKPOINT_BYTES, MAX_VERTICES, WORKSPACE_WORDS};
+use crate::reference::{Substitutes, CHECKPOINT_BYTES, MAX_VERTICES, WORKSPACE_WORDS};
 
 /// The error is what to print about a disagreement.
 pub type Verdict<T> = Result<T, String>;
@@ -26,14 +26,15 @@ pub struct Kind {
     scenario: Scenario,
 }
 
-pub const KINDS: [Kind; 10] = [
-    kind("graph", 200, graph),
+pub const KINDS: [Kind; 11] = [
+    kind("graph", 180, graph),
     kind("mapping", 200, mapping),
     kind("start", 50, start),
     kind("room", 40, room),
     kind("crafted", 180, crafted),
     kind("damaged", 160, damaged),
-    kind("small", 140, small),
+    kind("small", 130, small),
+    kind("relisted", 30, relisted),
     kind("middle", 22, middle),
     kind("large", 3, large),
     kind("long", 5, long),
@@ -63,6 +64,9 @@ pub struct Judge {
     pub comparisons: u64,
     /// How often each number was answered.
     pub answers: BTreeMap<u32, u64>,
+    /// How often a list was at fault: by its number, and by what the call answers with the empty
+    /// list, 0 where nothing else is wrong.
+    pub list_faults: BTreeMap<(u32, u32), u64>,
     /// Print the calls that agree too.
     pub aloud: bool,
 }
@@ -80,6 +84,11 @@ impl Judge {
         let outcome = call.made_by(&LIBRARY);
         self.comparisons += 1;
         *self.answers.entry(expected.answer.number).or_default() += 1;
+        if let Some(fault) = list_fault(&call) {
+            let without = call.clone().without_substitutes().made_by(&REFERENCE);
+            let beside = without.answer.number;
+            *self.list_faults.entry((fault, beside)).or_default() += 1;
+        }
         let both = || {
             let [library, wanted] = [&outcome, &expected].map(|outcome| outcome.describe(&call));
             format!("library: {library}expected: {wanted}")
@@ -94,6 +103,12 @@ impl Judge {
     }
 }
 
+/// What is wrong with the list, whether or not the call comes to it.
+fn list_fault(call: &Call) -> Option<u32> {
+    let refusal = Substitutes::parse(&call.given()?.substitutes).err()?;
+    Some(refusal.reason as u32)
+}
+
 fn graph(judge: &mut Judge, random: &mut Random) -> Verdict<()> {
     let graph = cases::any_graph_bytes(random);
     judge.compare(Call::CheckGraph { graph }).map(drop)
@@ -102,24 +117,29 @@ fn graph(judge: &mut Judge, random: &mut Random) -> Verdict<()> {
 fn mapping(judge: &mut Judge, random: &mut Random) -> Verdict<()> {
     let most = random.pick(&[4, 9, 9, 9, 20, ANY_ORDER]);
     let problem = cases::problem(random, 0..most);
-    let [mut old, mut new] = problem_bytes(random, &problem);
+    let mut given = given(random, &problem);
     if random.percent(5) {
-        damage_graph(random, &mut old, &mut new);
+        damage_graph(random, &mut given);
+    }
+    if random.percent(10) {
+        cases::spoil_substitutes(random, &mut given.substitutes);
     }
     let mapping = cases::any_mapping(random, &problem);
-    let call = Call::CheckMapping { old, new, mapping };
+    let call = Call::CheckMapping { given, mapping };
     judge.compare(call).map(drop)
 }
 
 fn start(judge: &mut Judge, random: &mut Random) -> Verdict<()> {
     let problem = cases::problem(random, 0..6);
-    let [mut old, mut new] = problem_bytes(random, &problem);
+    let mut given = given(random, &problem);
     if random.percent(30) {
-        damage_graph(random, &mut old, &mut new);
+        damage_graph(random, &mut given);
+    }
+    if random.percent(30) {
+        cases::spoil_substitutes(random, &mut given.substitutes);
     }
     let call = Call::Start {
-        old,
-        new,
+        given,
         minimum: random.byte(),
         checkpoint: output(random, CHECKPOINT_BYTES, 20),
     };
@@ -150,20 +170,21 @@ fn room(judge: &mut Judge, random: &mut Random) -> Verdict<()> {
             spoil(random, &mut call, cut.steps);
         }
         judge.compare(Call::ReadOut {
-            old: call.old,
-            new: call.new,
+            given: call.given,
             checkpoint: call.checkpoint,
             mapping: pattern(random, length, MAX_VERTICES),
         })?;
     }
     for length in near(fresh.save().len()) {
-        let (mut old, mut new) = (caller.old.clone(), caller.new.clone());
+        let mut given = caller.given.clone();
         if random.percent(30) {
-            damage_graph(random, &mut old, &mut new);
+            damage_graph(random, &mut given);
+        }
+        if random.percent(30) {
+            cases::spoil_substitutes(random, &mut given.substitutes);
         }
         judge.compare(Call::Start {
-            old,
-            new,
+            given,
             minimum: fresh.minimum,
             checkpoint: pattern(random, length, CHECKPOINT_BYTES),
         })?;
@@ -189,6 +210,9 @@ fn crafted(judge: &mut Judge, random: &mut Random) -> Verdict<()> {
         cases::misshape(random, &problem, &mut checkpoint);
     }
     let mut caller = Caller::with(random, &problem, checkpoint.save());
+    if random.percent(5) {
+        cases::spoil_substitutes(random, &mut caller.given.substitutes);
+    }
     caller.read_out(judge, random)?;
     let room = u64::MAX - checkpoint.steps;
     let budget = match random.within(0..4) {
@@ -210,6 +234,9 @@ fn damaged(judge: &mut Judge, random: &mut Random) -> Verdict<()> {
         cases::damage(random, &mut checkpoint);
     }
     let mut caller = Caller::with(random, &problem, checkpoint);
+    if random.percent(5) {
+        cases::spoil_substitutes(random, &mut caller.given.substitutes);
+    }
     caller.read_out(judge, random)?;
     let budget = random.within(0..60) as u64;
     caller.resume(judge, random, budget)
@@ -230,6 +257,23 @@ fn small(judge: &mut Judge, random: &mut Random) -> Verdict<()> {
     } else {
         Ok(())
     }
+}
+
+/// A search that goes on under another list, and then under the first one again. To either list
+/// the other's checkpoint is one that no call left.
+fn relisted(judge: &mut Judge, random: &mut Random) -> Verdict<()> {
+    let problem = cases::problem(random, 1..9);
+    let minimum = random.pick(&[0, 0, 1, 2]);
+    let mut caller = Caller::start(judge, random, &problem, minimum)?;
+    let first = problem.substitutes.save();
+    let other = cases::other_substitutes(random, &problem).save();
+    for substitutes in [first.clone(), other, first] {
+        caller.given.substitutes = substitutes;
+        caller.read_out(judge, random)?;
+        let budget = random.within(0..40) as u64;
+        caller.resume(judge, random, budget)?;
+    }
+    caller.read_out(judge, random)
 }
 
 /// Searches cut into several calls, mostly never finished.
@@ -326,17 +370,14 @@ fn agrees_with_brute_force(problem: &Problem, finished: &Checkpoint) -> Verdict<
 
 /// One who passes a search on as bytes between calls.
 struct Caller {
-    old: Vec<u8>,
-    new: Vec<u8>,
+    given: Given,
     checkpoint: Vec<u8>,
 }
 
 impl Caller {
     fn with(random: &mut Random, problem: &Problem, checkpoint: Vec<u8>) -> Caller {
-        let [old, new] = problem_bytes(random, problem);
         Caller {
-            old,
-            new,
+            given: given(random, problem),
             checkpoint,
         }
     }
@@ -349,8 +390,7 @@ impl Caller {
     ) -> Verdict<Caller> {
         let mut caller = Caller::with(random, problem, Vec::new());
         let outcome = judge.compare(Call::Start {
-            old: caller.old.clone(),
-            new: caller.new.clone(),
+            given: caller.given.clone(),
             minimum,
             checkpoint: output(random, CHECKPOINT_BYTES, 0),
         })?;
@@ -391,8 +431,7 @@ impl Caller {
     fn resume_call(&self, random: &mut Random, budget: u64) -> Resume {
         let spare = random.pick(&[0, 0, 1, 40]);
         Resume {
-            old: self.old.clone(),
-            new: self.new.clone(),
+            given: self.given.clone(),
             checkpoint: self.checkpoint.clone(),
             budget,
             workspace: workspace(random, WORKSPACE_WORDS + spare),
@@ -402,8 +441,7 @@ impl Caller {
 
     fn read_out(&self, judge: &mut Judge, random: &mut Random) -> Verdict<()> {
         let call = Call::ReadOut {
-            old: self.old.clone(),
-            new: self.new.clone(),
+            given: self.given.clone(),
             checkpoint: self.checkpoint.clone(),
             mapping: output(random, MAX_VERTICES, 5),
         };
@@ -412,8 +450,7 @@ impl Caller {
 
     fn check_mapping(&self, judge: &mut Judge, mapping: Vec<u8>) -> Verdict<()> {
         let call = Call::CheckMapping {
-            old: self.old.clone(),
-            new: self.new.clone(),
+            given: self.given.clone(),
             mapping,
         };
         judge.compare(call).map(drop)
@@ -426,7 +463,7 @@ impl Caller {
 }
 
 fn spoil(random: &mut Random, call: &mut Resume, steps: u64) {
-    match random.within(0..6) {
+    match random.within(0..7) {
         0 => {
             let words = random.pick(&[0, 1, 100, WORKSPACE_WORDS - 1]);
             call.workspace = workspace(random, words);
@@ -438,7 +475,8 @@ fn spoil(random: &mut Random, call: &mut Resume, steps: u64) {
             let length = random.within(0..call.checkpoint.len() + 1);
             call.checkpoint.truncate(length);
         }
-        4 => damage_graph(random, &mut call.old, &mut call.new),
+        4 => damage_graph(random, &mut call.given),
+        5 => cases::spoil_substitutes(random, &mut call.given.substitutes),
         _ => call.next = output(random, CHECKPOINT_BYTES, 100),
     }
 }
@@ -469,14 +507,18 @@ fn written(answer: &Answer, buffer: &Buffer<u8>) -> Vec<u8> {
     buffer.lent()[..answer.value as usize].to_vec()
 }
 
-fn problem_bytes(random: &mut Random, problem: &Problem) -> [Vec<u8>; 2] {
-    [&problem.old, &problem.new].map(|graph| cases::graph_bytes(random, graph))
+fn given(random: &mut Random, problem: &Problem) -> Given {
+    Given {
+        old: cases::graph_bytes(random, &problem.old),
+        new: cases::graph_bytes(random, &problem.new),
+        substitutes: problem.substitutes.save(),
+    }
 }
 
-fn damage_graph(random: &mut Random, old: &mut Vec<u8>, new: &mut Vec<u8>) {
+fn damage_graph(random: &mut Random, given: &mut Given) {
     if random.percent(50) {
-        cases::damage(random, old)
+        cases::damage(random, &mut given.old)
     } else {
-        cases::damage(random, new)
+        cases::damage(random, &mut given.new)
     }
 }

@@ -2,8 +2,9 @@
 
 use std::thread;
 
-use harness::call::{Buffer, Call, Resume, LIBRARY};
+use harness::call::{Buffer, Call, Given, Resume, LIBRARY};
 use harness::cases::{graph, Style};
+use harness::library::SUBSTITUTES_BYTES;
 use harness::random::Random;
 use harness::reference::{Checkpoint, CHECKPOINT_BYTES, MAX_VERTICES, WORKSPACE_WORDS};
 use harness::scenarios::{Judge, KINDS};
@@ -20,7 +21,7 @@ fn each_kind_agrees() {
     }
 }
 
-/// Each function on two graphs of 64 vertices and all edges.
+/// Each function on two graphs of 64 vertices and all edges, and on a full list.
 fn heavy_calls() -> [Call; 5] {
     let style = Style {
         vertex_labels: vec![7],
@@ -28,30 +29,32 @@ fn heavy_calls() -> [Call; 5] {
         density: 100,
     };
     let bytes = |seed| graph(&mut Random::new(seed), &style, MAX_VERTICES).save();
-    let (old, new) = (bytes(1), bytes(2));
+    let given = Given {
+        old: bytes(1),
+        new: bytes(2),
+        substitutes: vec![9; SUBSTITUTES_BYTES],
+    };
     let checkpoint = Checkpoint::fresh(0).save();
     [
-        Call::CheckGraph { graph: old.clone() },
+        Call::CheckGraph {
+            graph: given.old.clone(),
+        },
         Call::CheckMapping {
-            old: old.clone(),
-            new: new.clone(),
+            given: given.clone(),
             mapping: vec![255; MAX_VERTICES],
         },
         Call::Start {
-            old: old.clone(),
-            new: new.clone(),
+            given: given.clone(),
             minimum: 0,
             checkpoint: Buffer::filled(0, CHECKPOINT_BYTES, CHECKPOINT_BYTES),
         },
         Call::ReadOut {
-            old: old.clone(),
-            new: new.clone(),
+            given: given.clone(),
             checkpoint: checkpoint.clone(),
             mapping: Buffer::filled(0, MAX_VERTICES, MAX_VERTICES),
         },
         Call::Resume(Resume {
-            old,
-            new,
+            given,
             checkpoint,
             budget: 1_000,
             workspace: Buffer::filled(1, WORKSPACE_WORDS, WORKSPACE_WORDS),

@@ -75,7 +75,12 @@ impl Folder {
 
     /// What an accepted run prints. `words` are the budget and, if given, the minimum.
     fn printed(&self, program: &Path, words: &[&str]) -> String {
-        let output = self.run(program, &[&["old", "new", "saved"], words].concat());
+        self.printed_with(program, &[], words)
+    }
+
+    /// With so many substitutes.
+    fn printed_with(&self, program: &Path, pairs: &[&str], words: &[&str]) -> String {
+        let output = self.run(program, &arguments(pairs, words));
         assert!(output.status.success(), "{words:?} {output:?}");
         assert!(output.stderr.is_empty(), "{words:?} {output:?}");
         assert!(!self.0.join("saved.saving").exists());
@@ -84,8 +89,12 @@ impl Folder {
 
     /// The message of a refused run, without its line end. The file stays as it was.
     fn refused(&self, program: &Path, words: &[&str]) -> String {
+        self.refused_with(program, &[], words)
+    }
+
+    fn refused_with(&self, program: &Path, pairs: &[&str], words: &[&str]) -> String {
         let saved = self.saved();
-        let output = self.run(program, &[&["old", "new", "saved"], words].concat());
+        let output = self.run(program, &arguments(pairs, words));
         assert!(!output.status.success(), "{words:?} {output:?}");
         assert!(output.stdout.is_empty(), "{words:?} {output:?}");
         assert_eq!(self.saved(), saved, "{words:?}");
@@ -94,17 +103,27 @@ impl Folder {
     }
 }
 
+fn arguments<'a>(pairs: &[&'a str], words: &[&'a str]) -> Vec<&'a str> {
+    let options = pairs.iter().flat_map(|pair| ["--substitute", pair]);
+    let files = ["old", "new", "saved"];
+    options.chain(files).chain(words.iter().copied()).collect()
+}
+
 /// Has both programs checked, each in a folder of its own.
 fn both(name: &str, check: fn(&Folder, &Path)) {
     check(&Folder::new(&format!("{name}-c")), c_program());
     check(&Folder::new(&format!("{name}-rust")), rust_program());
 }
 
-fn saved_file(old: &[u8], new: &[u8], checkpoint: &[u8]) -> Vec<u8> {
+fn saved_file(substitutes: &[u8], checkpoint: &[u8]) -> Vec<u8> {
+    parts(&[&OLD, &NEW, substitutes, checkpoint])
+}
+
+fn parts(parts: &[&[u8]]) -> Vec<u8> {
     let mut bytes = Vec::new();
-    for part in [old, new, checkpoint] {
+    for part in parts {
         bytes.extend([(part.len() % 256) as u8, (part.len() / 256) as u8]);
-        bytes.extend(part);
+        bytes.extend(*part);
     }
     bytes
 }
@@ -121,10 +140,163 @@ fn a_search_goes_on_and_what_it_holds_is_shown() {
 }
 
 #[test]
-fn the_file_has_the_three_parts() {
+fn the_file_has_the_four_parts() {
     both("parts", |folder, program| {
         assert_eq!(folder.printed(program, &["4", "1"]), HELD);
-        assert_eq!(folder.saved().unwrap(), saved_file(&OLD, &NEW, &CHECKPOINT));
+        assert_eq!(folder.saved().unwrap(), saved_file(&[], &CHECKPOINT));
+        fs::remove_file(folder.0.join("saved")).unwrap();
+        // about labels that do not occur
+        folder.printed_with(program, &["1:2", "255:1"], &["4", "1"]);
+        let saved = saved_file(&[1, 2, 255, 1], &CHECKPOINT);
+        assert_eq!(folder.saved().unwrap(), saved);
+    });
+}
+
+#[test]
+fn a_file_from_before_there_were_substitutes_has_the_empty_list() {
+    both("three-parts", |folder, program| {
+        let earlier = parts(&[&OLD, &NEW, &CHECKPOINT]);
+        folder.write("saved", &earlier);
+        assert_eq!(
+            folder.refused_with(program, &["7:9"], &["0"]),
+            "checkpoint saved: saved for other substitutes: name another file"
+        );
+        assert_eq!(folder.printed(program, &["0"]), HELD);
+        assert_eq!(folder.saved().unwrap(), saved_file(&[], &CHECKPOINT));
+        for length in 0..earlier.len() {
+            folder.write("saved", &earlier[..length]);
+            assert_eq!(
+                folder.refused(program, &["0"]),
+                "checkpoint saved: damaged, or not a file of this program",
+                "{length}"
+            );
+        }
+    });
+}
+
+#[test]
+fn substitutes_let_other_labels_agree() {
+    both("substitutes", |folder, program| {
+        folder.write("old", &[1, 7, 0]);
+        folder.write("new", &[1, 9, 0]);
+        let none = "state finished\nsteps 2\nsize 0\nceiling 1\n0 is left out\n";
+        let one = "state finished\nsteps 3\nsize 1\nceiling 2\n0 maps to 0\n";
+        let lists: [(&[&str], &str); 6] = [
+            (&[], none),
+            (&["7:9"], one),
+            (&["9:7"], none),
+            (&["7:8", "8:9"], none),
+            (&["7:8", "7:9", "7:9"], one),
+            (&["255:1", "1:255", "7:9"], one),
+        ];
+        for (pairs, printed) in lists {
+            assert_eq!(folder.printed_with(program, pairs, &["100"]), printed);
+            fs::remove_file(folder.0.join("saved")).unwrap();
+        }
+        // cut after each visit
+        for printed in ["steps 1", "steps 2", "steps 3"] {
+            let now = folder.printed_with(program, &["7:9"], &["1"]);
+            assert!(now.contains(printed), "{now}");
+        }
+        assert_eq!(folder.printed_with(program, &["7:9"], &["1", "0"]), one);
+    });
+}
+
+#[test]
+fn a_file_of_other_substitutes_is_refused() {
+    both("other-substitutes", |folder, program| {
+        let first = folder.printed_with(program, &["7:9", "1:2"], &["3"]);
+        let others: [&[&str]; 6] = [
+            &[],
+            &["7:9"],
+            &["9:7", "1:2"],
+            // the same pairs, but not the same bytes
+            &["1:2", "7:9"],
+            &["7:9", "1:2", "1:2"],
+            &["7:9", "1:3"],
+        ];
+        for pairs in others {
+            assert_eq!(
+                folder.refused_with(program, pairs, &["3"]),
+                "checkpoint saved: saved for other substitutes: name another file"
+            );
+        }
+        let again = folder.printed_with(program, &["7:9", "1:2"], &["0"]);
+        assert_eq!(again, first);
+    });
+}
+
+#[test]
+fn each_program_goes_on_from_the_others_file_with_substitutes() {
+    for (first, second, name) in [
+        (c_program(), rust_program(), "c-then-rust-substitutes"),
+        (rust_program(), c_program(), "rust-then-c-substitutes"),
+    ] {
+        let folder = Folder::new(name);
+        folder.printed_with(first, &["7:9", "9:7"], &["3"]);
+        assert!(folder.refused(second, &["3"]).contains("other substitutes"));
+        let one = folder.printed_with(second, &["7:9", "9:7"], &["1000"]);
+        assert!(one.starts_with("state finished\n"), "{one}");
+        assert_eq!(folder.printed_with(first, &["7:9", "9:7"], &["0"]), one);
+    }
+}
+
+#[test]
+fn only_two_labels_are_a_substitute() {
+    both("substitute-word", |folder, program| {
+        for word in [
+            "",
+            ":",
+            "7",
+            "7:",
+            ":9",
+            "7:0",
+            "0:9",
+            "7:256",
+            "256:9",
+            "07:9",
+            "7:09",
+            "+7:9",
+            "7:-9",
+            " 7:9",
+            "7 :9",
+            "7:9 ",
+            "7:9:",
+            "7:9:1",
+            "7,9",
+            "0x7:9",
+            "seven:9",
+            "18446744073709551623:9",
+            "7:18446744073709551625",
+        ] {
+            let message = format!(
+                "substitute '{word}': not two numbers from 1 to 255 in plain form, as in 7:9"
+            );
+            assert_eq!(folder.refused_with(program, &[word], &["3"]), message);
+            assert_eq!(
+                folder.refused_with(program, &["7:9", word], &["3"]),
+                message
+            );
+        }
+        assert_eq!(folder.saved(), None);
+    });
+}
+
+#[test]
+fn at_most_256_substitutes_are_taken() {
+    both("many-substitutes", |folder, program| {
+        assert_eq!(
+            folder.refused_with(program, &["1:2"; 257], &["3"]),
+            "substitute '1:2': at most 256 may be given"
+        );
+        assert_eq!(folder.saved(), None);
+        assert_eq!(
+            folder.printed_with(program, &["1:2"; 256], &["3"]),
+            NOTHING_HELD
+        );
+        let list = folder.saved().unwrap()[2 + OLD.len() + 2 + NEW.len()..][..514].to_vec();
+        assert_eq!(list, parts(&[&[1, 2].repeat(256)]));
+        assert_eq!(folder.printed_with(program, &["1:2"; 256], &["1"]), HELD);
     });
 }
 
@@ -137,11 +309,13 @@ fn the_longest_file_is_saved_and_loaded() {
         assert_eq!(graph.len(), 8193);
         folder.write("old", &graph);
         folder.write("new", &graph);
+        let pairs = ["255:1"; 256];
         // 64 vertices are mapped, and the next node too decides all of them
-        let held = folder.printed(program, &["65"]);
+        let held = folder.printed_with(program, &pairs, &["65"]);
         assert!(held.starts_with("state unfinished\nsteps 65\nsize 64\nceiling 65\n"));
-        assert_eq!(folder.saved().unwrap().len(), 2 + 8193 + 2 + 8193 + 2 + 270);
-        let finished = folder.printed(program, &["100000"]);
+        let longest = 2 + 8193 + 2 + 8193 + 2 + 512 + 2 + 270;
+        assert_eq!(folder.saved().unwrap().len(), longest);
+        let finished = folder.printed_with(program, &pairs, &["100000"]);
         assert!(finished.starts_with("state finished\n") && finished.ends_with("63 maps to 63\n"));
         folder.write("new", &[&graph[..], &[0]].concat());
         assert_eq!(
@@ -299,20 +473,27 @@ fn a_file_of_other_graphs_is_refused() {
 #[test]
 fn a_damaged_file_is_refused() {
     both("damaged", |folder, program| {
-        let whole = saved_file(&OLD, &NEW, &CHECKPOINT);
-        let cuts = (0..whole.len()).map(|length| whole[..length].to_vec());
-        let longer = [&whole[..], &[0]].concat();
-        let bare_checkpoint = CHECKPOINT.to_vec();
-        for bytes in cuts.chain([longer, bare_checkpoint, vec![255; 20_000]]) {
-            folder.write("saved", &bytes);
-            assert_eq!(
-                folder.refused(program, &["3"]),
-                "checkpoint saved: damaged, or not a file of this program",
-                "{bytes:?}"
-            );
+        for pairs in [&[][..], &["1:2", "255:1"]] {
+            let list: &[u8] = if pairs.is_empty() {
+                &[]
+            } else {
+                &[1, 2, 255, 1]
+            };
+            let whole = saved_file(list, &CHECKPOINT);
+            let cuts = (0..whole.len()).map(|length| whole[..length].to_vec());
+            let longer = [&whole[..], &[0]].concat();
+            let bare_checkpoint = CHECKPOINT.to_vec();
+            for bytes in cuts.chain([longer, bare_checkpoint, vec![255; 20_000]]) {
+                folder.write("saved", &bytes);
+                assert_eq!(
+                    folder.refused_with(program, pairs, &["3"]),
+                    "checkpoint saved: damaged, or not a file of this program",
+                    "{bytes:?}"
+                );
+            }
+            folder.write("saved", &whole);
+            assert_eq!(folder.printed_with(program, pairs, &["0"]), HELD);
         }
-        folder.write("saved", &whole);
-        assert_eq!(folder.printed(program, &["0"]), HELD);
     });
 }
 
@@ -326,7 +507,7 @@ fn a_damaged_checkpoint_is_refused() {
             (&CHECKPOINT[..3], "checkpoint saved: refused 17 (3)"),
             (&out_of_shape[..], "checkpoint saved: refused 14 (0)"),
         ] {
-            folder.write("saved", &saved_file(&OLD, &NEW, checkpoint));
+            folder.write("saved", &saved_file(&[], checkpoint));
             assert_eq!(folder.refused(program, &["3"]), message);
             assert_eq!(folder.refused(program, &["3", "0"]), message);
         }
@@ -359,12 +540,15 @@ fn a_file_that_cannot_be_saved_is_refused() {
 #[test]
 fn too_few_or_too_many_arguments_are_refused() {
     both("arguments", |folder, program| {
-        for words in [&[][..], &["3", "0", "0"]] {
-            assert_eq!(
-                folder.refused(program, words),
-                "resume needs: OLD NEW CHECKPOINT BUDGET [MINIMUM]"
-            );
+        let needs =
+            "resume needs: [--substitute LABEL:LABEL]... OLD NEW CHECKPOINT BUDGET [MINIMUM]";
+        for words in [&[][..], &["3", "0", "0"], &["3", "--substitute", "7:9"]] {
+            assert_eq!(folder.refused(program, words), needs);
+            assert_eq!(folder.refused_with(program, &["7:9"], words), needs);
         }
+        let output = folder.run(program, &["--substitute"]);
+        assert!(!output.status.success() && output.stdout.is_empty());
+        assert_eq!(output.stderr, format!("{needs}\n").into_bytes());
         assert_eq!(folder.saved(), None);
     });
 }

@@ -3,11 +3,12 @@
 
 use harness::answer::Answer;
 use harness::cases::{graph, Style};
+use harness::library::NO_SUBSTITUTES;
 use harness::random::Random;
 use harness::reference::{Checkpoint, CHECKPOINT_BYTES, WORKSPACE_WORDS};
 use harness::{library, reference};
 
-type Resume = fn(&[u8], &[u8], &[u8], u64, &mut [u64], &mut [u8]) -> Answer;
+type Resume = fn(&[u8], &[u8], &[u8], &[u8], u64, &mut [u64], &mut [u8]) -> Answer;
 
 /// The answers of calls with these budgets, one after the other, and each call's checkpoint.
 fn calls(resume: Resume, graph: &[u8], budgets: [u64; 4]) -> Vec<(Answer, Vec<u8>)> {
@@ -16,7 +17,15 @@ fn calls(resume: Resume, graph: &[u8], budgets: [u64; 4]) -> Vec<(Answer, Vec<u8
     for budget in budgets {
         let mut workspace = vec![9; WORKSPACE_WORDS];
         let mut next = vec![0; CHECKPOINT_BYTES];
-        let answer = resume(graph, graph, &checkpoint, budget, &mut workspace, &mut next);
+        let answer = resume(
+            graph,
+            graph,
+            NO_SUBSTITUTES,
+            &checkpoint,
+            budget,
+            &mut workspace,
+            &mut next,
+        );
         assert!(answer.is_accepted());
         assert!(workspace.iter().all(|&word| word == 0));
         next.truncate(answer.value as usize);

@@ -1,7 +1,9 @@
-//! The marked examples at the end of 01, through the C interface and through the reference.
+//! The marked examples at the end of 01, with the empty list, through the C interface and through
+//! the reference.
 
 use harness::answer::Answer;
 use harness::call::{Implementation, LIBRARY, REFERENCE};
+use harness::library::NO_SUBSTITUTES;
 use harness::reference::{CHECKPOINT_BYTES, MAX_VERTICES, WORKSPACE_WORDS};
 
 /// 01's pair P.
@@ -26,18 +28,26 @@ struct Found {
 
 fn search(by: &Implementation, [old, new]: [&[u8]; 2], minimum: u8, budget: u64) -> Found {
     let mut fresh = [0; CHECKPOINT_BYTES];
-    let started = (by.start)(old, new, minimum, &mut fresh);
+    let started = (by.start)(old, new, NO_SUBSTITUTES, minimum, &mut fresh);
     assert!(started.is_accepted());
     let fresh = &fresh[..started.value as usize];
 
     let mut workspace = [1; WORKSPACE_WORDS];
     let mut next = [0; CHECKPOINT_BYTES];
-    let resumed = (by.resume)(old, new, fresh, budget, &mut workspace, &mut next);
+    let resumed = (by.resume)(
+        old,
+        new,
+        NO_SUBSTITUTES,
+        fresh,
+        budget,
+        &mut workspace,
+        &mut next,
+    );
     assert!(resumed.is_accepted());
     let next = &next[..resumed.value as usize];
 
     let mut mapping = [0; MAX_VERTICES];
-    let read = (by.read_out)(old, new, next, &mut mapping);
+    let read = (by.read_out)(old, new, NO_SUBSTITUTES, next, &mut mapping);
     assert!(read.is_accepted());
     assert_eq!(read.ceiling, resumed.ceiling);
     let order = (by.check_graph)(old).value as usize;

@@ -1,6 +1,7 @@
 //! 13 is the last refusal, and comes only where the output does not fit (01, "Refusals by place of checking").
 
 use harness::call::{Implementation, LIBRARY, REFERENCE};
+use harness::library::NO_SUBSTITUTES;
 use harness::reference::{MAX_VERTICES, WORKSPACE_WORDS};
 
 const OLD: &[u8] = &[1, 7, 1, 9, 1, 7, 2, 0, 1, 1, 2, 1, 2, 1, 0];
@@ -22,7 +23,7 @@ fn start_fits_or_13() {
     each(|by| {
         for length in 0..=20 {
             let mut checkpoint = vec![0x55; length];
-            let answer = (by.start)(OLD, NEW, 1, &mut checkpoint);
+            let answer = (by.start)(OLD, NEW, NO_SUBSTITUTES, 1, &mut checkpoint);
             if length < FRESH.len() {
                 assert_eq!((answer.number, answer.value), (13, 0));
                 assert_eq!(checkpoint, vec![0x55; length]);
@@ -41,7 +42,15 @@ fn resume_fits_or_13() {
         for length in 0..=26 {
             let mut workspace = vec![9; WORKSPACE_WORDS + 1];
             let mut next = vec![0x55; length];
-            let answer = (by.resume)(OLD, NEW, &FRESH, 100, &mut workspace, &mut next);
+            let answer = (by.resume)(
+                OLD,
+                NEW,
+                NO_SUBSTITUTES,
+                &FRESH,
+                100,
+                &mut workspace,
+                &mut next,
+            );
             let words = |word| [vec![word; WORKSPACE_WORDS], vec![9]].concat();
             if length < LAST.len() {
                 assert_eq!((answer.number, answer.value, answer.ceiling), (13, 0, 0));
@@ -62,7 +71,7 @@ fn held_mapping_fits_or_13() {
     each(|by| {
         for length in 0..=MAX_VERTICES {
             let mut mapping = vec![0x55; length];
-            let answer = (by.read_out)(OLD, NEW, &LAST, &mut mapping);
+            let answer = (by.read_out)(OLD, NEW, NO_SUBSTITUTES, &LAST, &mut mapping);
             if length < 3 {
                 assert_eq!(answer.number, 13);
                 let rest = (answer.value, answer.steps, answer.size, answer.ceiling);
@@ -74,7 +83,7 @@ fn held_mapping_fits_or_13() {
                 assert!(mapping[3..].iter().all(|&byte| byte == 0x55));
             }
         }
-        let nothing_held = (by.read_out)(OLD, NEW, &FRESH, &mut []);
+        let nothing_held = (by.read_out)(OLD, NEW, NO_SUBSTITUTES, &FRESH, &mut []);
         assert_eq!((nothing_held.number, nothing_held.ceiling), (0, 4));
     });
 }
@@ -82,13 +91,13 @@ fn held_mapping_fits_or_13() {
 #[test]
 fn every_other_refusal_comes_before_13() {
     each(|by| {
-        let start = (by.start)(&[], NEW, 1, &mut []);
+        let start = (by.start)(&[], NEW, NO_SUBSTITUTES, 1, &mut []);
         assert_eq!((start.number, start.value), (1, 0));
 
         let mut enough = vec![9; WORKSPACE_WORDS];
         let mut few = vec![9; WORKSPACE_WORDS - 1];
         let resume = |old: &[u8], checkpoint: &[u8], budget: u64, words: &mut [u64]| {
-            let answer = (by.resume)(old, NEW, checkpoint, budget, words, &mut []);
+            let answer = (by.resume)(old, NEW, NO_SUBSTITUTES, checkpoint, budget, words, &mut []);
             assert!(words.iter().all(|&word| word == 9));
             (answer.number, answer.value)
         };
@@ -102,8 +111,12 @@ fn every_other_refusal_comes_before_13() {
         assert_eq!(resume(OLD, &begun, 1, &mut enough), (13, 0));
 
         let misshapen = [&LAST[..3], &[0; 8], &LAST[11..]].concat();
-        assert_eq!((by.read_out)(OLD, NEW, &misshapen, &mut []).number, 14);
-        assert_eq!((by.read_out)(OLD, &[1], &LAST, &mut []).number, 1);
-        assert_eq!((by.read_out)(OLD, NEW, &LAST, &mut []).number, 13);
+        let read_out = |new: &[u8], checkpoint: &[u8]| {
+            let answer = (by.read_out)(OLD, new, NO_SUBSTITUTES, checkpoint, &mut []);
+            answer.number
+        };
+        assert_eq!(read_out(NEW, &misshapen), 14);
+        assert_eq!(read_out(&[1], &LAST), 1);
+        assert_eq!(read_out(NEW, &LAST), 13);
     });
 }

@@ -1,4 +1,5 @@
 pub mod Choice
 pub mod Filled
 pub mod RefusalNumbers
+pub mod FirstRefusal
 pub mod Stores

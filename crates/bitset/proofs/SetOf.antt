@@ -12,7 +12,7 @@ use borrow.Author.Tests.{ne-eqb, lt-ltb, le-ltb}
 use lib.Dec.{ltb, eqb}
 use lib.Pow.{pow-pos, pow-mono, pow-lt, high, low, mod-pow-add}
 use lib.Bits.{bitAnd, bitOr, and-lt, or-lt, or-shifted-r}
-use Rattle.bitset.specs.Members.{member, setOf, meetOf, differenceOf, insert}
+use Rattle.bitset.specs.Members.{member, setOf, meetOf, unionOf, differenceOf, insert}
 use Rattle.bitset.proofs.Membership.{digit, digit-test, digit-member, member-above, member-zero, member-mod, member-pow, member-and, member-or}
 
 -- one more test puts its digit above the digits of the others
@@ -99,6 +99,20 @@ meetOf-and {a} {b} ha hb = setOf-and 64 (member a) (member b) ∙ ap₂ bitAnd (
 -- The meet of the sets of two tests is the set of the numbers that pass both.
 pub meetOf-setOf : (k : ℕ) (t u : ℕ → Bool) → k ≤ 64 → meetOf (setOf k t) (setOf k u) ≡ setOf k (λ i. t i && u i)
 meetOf-setOf k t u h = meetOf-and (setOf-word k t h) (setOf-word k u h) ∙ sym (setOf-and k t u)
+
+-- The union of two words is their `|`.
+pub unionOf-or : {a b : ℕ} → a < 2 ^ 64 → b < 2 ^ 64 → unionOf a b ≡ bitOr a b
+unionOf-or {a} {b} ha hb =
+    set-ext 64 (setOf-lt 64 (λ i. member a i || member b i)) (or-lt 64 a b ha hb)
+    (λ i h. rw member-or (member-setOf 64 (λ j. member a j || member b j) i h))
+
+-- The union of the sets of two tests is the set of the numbers that pass either.
+pub unionOf-setOf : (t u : ℕ → Bool) → unionOf (setOf 64 t) (setOf 64 u) ≡ setOf 64 (λ i. t i || u i)
+unionOf-setOf t u = setOf-congr 64 _ _ (λ i h. rw (member-setOf 64 t i h, member-setOf 64 u i h) refl)
+
+-- The set of a test with a number added is the set of the numbers that pass, or are it.
+pub insert-setOf : (t : ℕ → Bool) (n : ℕ) → insert (setOf 64 t) n ≡ setOf 64 (λ i. eqb i n || t i)
+insert-setOf t n = setOf-congr 64 _ _ (λ i h. rw (member-setOf 64 t i h) refl)
 
 -- Of the numbers that pass a test, those that pass another and those that fail it are all.
 pub setOf-parts : (k : ℕ) (t u : ℕ → Bool) → setOf k (λ i. t i && u i) + setOf k (λ i. t i && not (u i)) ≡ setOf k t

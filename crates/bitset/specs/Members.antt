@@ -16,6 +16,10 @@ setOf (suc k) test = setOf k test + cond (test k) (2 ^ k) 0
 abbrev pub meetOf : ℕ → ℕ → ℕ
 meetOf a b = setOf 64 (λ i. member a i && member b i)
 
+-- the numbers below 64 that are members of a or of b
+abbrev pub unionOf : ℕ → ℕ → ℕ
+unionOf a b = setOf 64 (λ i. member a i || member b i)
+
 -- the numbers below 64 that are members of a and not of b
 abbrev pub differenceOf : ℕ → ℕ → ℕ
 differenceOf a b = setOf 64 (λ i. member a i && not (member b i))

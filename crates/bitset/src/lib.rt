@@ -2,7 +2,7 @@
 
 ghost use mathlib.Core.Path.{_≡_};
 ghost use lib.Dec.{eqb};
-ghost use Rattle.bitset.specs.Members.{member, meetOf, differenceOf, insert, membersFrom};
+ghost use Rattle.bitset.specs.Members.{member, meetOf, unionOf, differenceOf, insert, membersFrom};
 ghost use Rattle.bitset.specs.Count.{size};
 ghost use Rattle.bitset.specs.Least.{leastMember, leastAbove, withoutLeast};
 
@@ -57,6 +57,12 @@ pub fn meet(a: u64, b: u64) -> u64
     ensures { λ r. ⌜ r ≡ meetOf a b ⌝ }
 {
     a & b
+}
+
+pub fn union(a: u64, b: u64) -> u64
+    ensures { λ r. ⌜ r ≡ unionOf a b ⌝ }
+{
+    a | b
 }
 
 // The members of `a` that are not in `b`: what both hold is part of `a`, and is taken off.

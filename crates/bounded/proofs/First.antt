@@ -1,5 +1,5 @@
 -- The first finding below a bound: none exactly where no number has one, and else that of the first number that has one.
-use mathlib.Core.Path.{_≡_, refl, _∙_}
+use mathlib.Core.Path.{_≡_, refl, ap₂, _∙_}
 use mathlib.Core.Logic.{⊎-elim}
 use mathlib.Core.Option.{Option, none, some, Option·some-ne-none, Option·none-ne-some}
 use Prim.Native.Nat.{ℕ, zero, suc, _+_, _≤_, _<_, zero-le}
@@ -38,6 +38,12 @@ module _ {A : Type 0} where
       (λ (q : k ≡ n). rw (← q, none-firstBelow k f before) e)
       (λ below. rw (some-firstBelow n f k a below before e))
       (eq-or-lt-of-le (le-of-suc-le-suc h))
+
+  -- The same findings below the bound make the same first one.
+  pub firstBelow-congr : (n : ℕ) (f g : ℕ → Option A) → ((k : ℕ) → k < n → f k ≡ g k) → firstBelow n f ≡ firstBelow n g
+  unfolding firstBelow
+  firstBelow-congr zero f g same = refl
+  firstBelow-congr (suc n) f g same = ap₂ orElse (firstBelow-congr n f g (λ k h. same k (omega arith))) (same n (le-refl (suc n)))
 
   -- A first finding is that of some number below the bound, and no number before it has one.
   pub firstBelow-some : (n : ℕ) (f : ℕ → Option A) (a : A) → firstBelow n f ≡ some a

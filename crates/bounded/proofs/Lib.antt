@@ -1,3 +1,4 @@
 pub mod AllBelow
 pub mod Below
+pub mod SomeBelow
 pub mod First

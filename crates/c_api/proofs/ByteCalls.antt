@@ -8,7 +8,7 @@ use lib.Dec.{eqb}
 use lib.ListN.{take}
 use borrow.Author.Tests.{ne-eqb}
 use Rattle.answers.specs.Answer.{Answer, passed, accepted, refused, refusedAt, refusalNumber, valueOf}
-use Rattle.problem.specs.Problem.{Problem, SoundProblem}
+use Rattle.problem.specs.Problem.{Problem, SoundProblem, substituting}
 use Rattle.problem_reader.specs.ProblemReading.{ReadOutcome, read, refusal, readProblem}
 use Rattle.problem_reader.proofs.ReadProblem.{Refusing, outcome-refusing}
 use Rattle.checkpoint.specs.declared.Checkpoint.{Checkpoint}
@@ -26,31 +26,22 @@ use Rattle.checkpoint_bytes.proofs.SaveLoad.{saved-passed, save-load-buffer}
 use Rattle.replies.specs.declared.Reply.{Reply}
 use Rattle.replies.specs.Resumed.{Resumed, searchFrom, loadOn, resumeFrom}
 use Rattle.replies.proofs.CallKept.{Ways, Positive, save-kept}
-use Rattle.c_api.specs.Calls.{Started, startOn, starting, resumeOn, resuming}
+use Rattle.c_api.specs.Calls.{startOn, starting, resumeOn, resuming}
 use Rattle.c_api.specs.ResumedCall.{loadsTo}
-use Rattle.c_api.specs.ByteCalls.{
-  ByteCall,
-  resume,
-  bytesAfter,
-  bytesLeft,
-  searchCallOf,
-  searchCalls,
-  ceilingOf,
-  seenOf,
-  seenBy,
-  returned,
-  startBytes,
-  ThroughBytes,
-}
+use Rattle.c_api.specs.ByteCalls.{ByteCall, resume, bytesAfter, bytesLeft, searchCallOf, searchCalls, ceilingOf, seenOf, seenBy, returned, startBytes, ThroughBytes}
 use Rattle.c_api.proofs.SearchWays.{SearchWays, kept, short, saved, search-ways}
 
-module _ (old new : List ℕ) (P : Problem) (graphs-read : readProblem old new ≡ read P) where
+module _ (old new substitutes : List ℕ) (G : Problem) (graphs-read : readProblem old new ≡ read G) where
+  -- the problem that is searched: the graphs that were read, with the list
+  abbrev P : Problem
+  P = substituting substitutes G
+
   module _ (bytes : List ℕ) (c : Checkpoint) (loads : loading P bytes ≡ loadsTo c) where
     -- a call on bytes that load c is the search from c
-    resume-loaded : (x : ByteCall) → resume old new bytes x ≡ searchFrom P c (x .budget) (x .workspace) (x .next)
+    resume-loaded : (x : ByteCall) → resume old new substitutes bytes x ≡ searchFrom P c (x .budget) (x .workspace) (x .next)
     unfolding resuming resumeFrom
     resume-loaded x =
-        ap (λ (o : ReadOutcome). resumeOn o bytes (x .budget) (x .workspace) (x .next)) graphs-read
+        ap (λ (o : ReadOutcome). resumeOn o substitutes bytes (x .budget) (x .workspace) (x .next)) graphs-read
         ∙ ap (λ (l : Loading). loadOn P l (x .budget) (x .workspace) (x .next)) loads
 
     -- one call: it is refused with 13, or it is a search call on c, and the next call's bytes load the checkpoint that this one leaves
@@ -58,7 +49,7 @@ module _ (old new : List ℕ) (P : Problem) (graphs-read : readProblem old new �
       dropped : eqb (r .reply .number) 13 ≡ true → bytesAfter bytes r ≡ bytes → Step q r
       made : eqb (r .reply .number) 13 ≡ false → seenBy r ≡ seenOf q → loading P (bytesAfter bytes r) ≡ loadsTo (q .checkpoint) → Step q r
 
-    step : SoundProblem P → Sized c → InShape P c → (x : ByteCall) → Step (called P c (searchCallOf x)) (resume old new bytes x)
+    step : SoundProblem P → Sized c → InShape P c → (x : ByteCall) → Step (called P c (searchCallOf x)) (resume old new substitutes bytes x)
     step sound sized shape x = rw (resume-loaded x) (go _ (search-ways P c (searchCallOf x) (x .next) sound sized shape))
       where
         q : Called
@@ -81,8 +72,8 @@ module _ (old new : List ℕ) (P : Problem) (graphs-read : readProblem old new �
   -- from bytes that load c: the calls return what the search calls made give, and the bytes left load the checkpoint that these leave
   abbrev Follows : List ℕ → Checkpoint → List ByteCall → Type 0
   Follows bytes c calls =
-      (returned old new bytes calls ≡ map seenOf (results P c (searchCalls old new bytes calls)))
-      × (loading P (bytesLeft old new bytes calls) ≡ loadsTo (leaves P c (searchCalls old new bytes calls)))
+      (returned old new substitutes bytes calls ≡ map seenOf (results P c (searchCalls old new substitutes bytes calls)))
+      × (loading P (bytesLeft old new substitutes bytes calls) ≡ loadsTo (leaves P c (searchCalls old new substitutes bytes calls)))
 
   follows : SoundProblem P → (bytes : List ℕ) (c : Checkpoint) → loading P bytes ≡ loadsTo c → Sized c → (calls : List ByteCall)
       → Follows bytes c calls
@@ -95,7 +86,7 @@ module _ (old new : List ℕ) (P : Problem) (graphs-read : readProblem old new �
       shape = rw loads at (load-in-shape P bytes (ap (λ (l : Loading). l .answer) loads) .1)
 
       r : Resumed
-      r = resume old new bytes x
+      r = resume old new substitutes bytes x
 
       go : ((b : List ℕ) (d : Checkpoint) → loading P b ≡ loadsTo d → Sized d → Follows b d later)
           → Step bytes c loads (called P c (searchCallOf x)) r → Follows bytes c (x ∷ later)
@@ -105,37 +96,41 @@ module _ (old new : List ℕ) (P : Problem) (graphs-read : readProblem old new �
           let more = rest (bytesAfter bytes r) (q .checkpoint) back (called-sized P c sized (searchCallOf x)) in
           rw f (rw (seen, more .0), more .1)
 
-module _ (old new : List ℕ) (minimum : ℕ) (buffer : List ℕ) where
+module _ (old new substitutes : List ℕ) (minimum : ℕ) (buffer : List ℕ) where
   -- Once a search is started, whatever calls follow obey the third property.
-  pub third-property-bytes : starting old new minimum buffer .reply .number ≡ 0
-      → ThroughBytes old new minimum (startBytes (starting old new minimum buffer))
+  pub third-property-bytes : starting old new substitutes minimum buffer .reply .number ≡ 0
+      → ThroughBytes old new substitutes minimum (startBytes (starting old new substitutes minimum buffer))
   unfolding starting
   third-property-bytes = go (readProblem old new) refl (outcome-refusing old new)
     where
       fresh : Checkpoint
       fresh = freshCheckpoint minimum
 
-      on-save : (P : Problem) → readProblem old new ≡ read P → (a : Answer) → saving P fresh buffer .answer ≡ a
+      -- an accepted save shows that the list is sound, as the graphs are
+      on-save : (G : Problem) → readProblem old new ≡ read G
+          → let P = substituting substitutes G in
+          (a : Answer) → saving P fresh buffer .answer ≡ a
           → Ways Positive (Unit {0}) (saving P fresh buffer .buffer ≡ buffer) a → refusalNumber a ≡ 0
-          → ThroughBytes old new minimum (take (valueOf a) (saving P fresh buffer .buffer))
-      on-save P e passed s h z = absurd h
-      on-save P e (accepted k) s h z =
+          → ThroughBytes old new substitutes minimum (take (valueOf a) (saving P fresh buffer .buffer))
+      on-save G e passed s h z = absurd h
+      on-save G e (accepted k) s h z =
+          let P = substituting substitutes G in
           let sound = passes-shape P fresh (saved-passed P fresh buffer k s) .0 in
           let end = third-property-total P sound minimum in
           let back = save-load-buffer P fresh buffer k (fresh-sized minimum) s in
           record {
-            graphs = P;
+            graphs = G;
             graphs-read = e;
             total = end .0;
             is-total = end .1;
-            property = λ calls. end .3 (searchCalls old new (take k (saving P fresh buffer .buffer)) calls);
-            returns = λ calls. follows old new P e sound _ fresh back (fresh-sized minimum) calls .0;
-            loads = λ calls. follows old new P e sound _ fresh back (fresh-sized minimum) calls .1;
+            property = λ calls. end .3 (searchCalls old new substitutes (take k (saving P fresh buffer .buffer)) calls);
+            returns = λ calls. follows old new substitutes G e sound _ fresh back (fresh-sized minimum) calls .0;
+            loads = λ calls. follows old new substitutes G e sound _ fresh back (fresh-sized minimum) calls .1;
           }
-      on-save P e (refused n) s h z = absurd (omega (arith, h .0))
-      on-save P e (refusedAt n at) s h z = absurd (omega (arith, h .0))
+      on-save G e (refused n) s h z = absurd (omega (arith, h .0))
+      on-save G e (refusedAt n at) s h z = absurd (omega (arith, h .0))
 
-      go : (g : ReadOutcome) → readProblem old new ≡ g → Refusing g → startOn g minimum buffer .reply .number ≡ 0
-          → ThroughBytes old new minimum (startBytes (startOn g minimum buffer))
-      go (read P) e h z = on-save P e (saving P fresh buffer .answer) refl (save-kept P fresh buffer) z
+      go : (g : ReadOutcome) → readProblem old new ≡ g → Refusing g → startOn g substitutes minimum buffer .reply .number ≡ 0
+          → ThroughBytes old new substitutes minimum (startBytes (startOn g substitutes minimum buffer))
+      go (read G) e h z = let P = substituting substitutes G in on-save G e (saving P fresh buffer .answer) refl (save-kept P fresh buffer) z
       go (refusal a) e h z = absurd (omega (arith, h .0))

@@ -1,5 +1,5 @@
 -- With room for 270 bytes, or for the 64 of a mapping, the number 13 does not occur, so that no visit is lost for want of it.
-use mathlib.Core.Path.{_≡_, refl, ap}
+use mathlib.Core.Path.{_≡_, refl}
 use mathlib.Core.Bool.{cond}
 use mathlib.Core.List.{List}
 use Prim.Native.Nat.{ℕ, _≤_}
@@ -9,7 +9,7 @@ use borrow.Author.Tests.{le-leb}
 use Rattle.answers.specs.Answer.{Answer, passed, accepted, refused, refusedAt, refusalNumber}
 use Rattle.answers.specs.Output.{writeIf}
 use Rattle.answers.proofs.RefusalNumbers.{Plain}
-use Rattle.problem.specs.Problem.{Problem}
+use Rattle.problem.specs.Problem.{Problem, substituting}
 use Rattle.problem_reader.specs.ProblemReading.{ReadOutcome, read, refusal, readProblem}
 use Rattle.problem_reader.proofs.ReadProblem.{Refusing, outcome-refusing}
 use Rattle.checkpoint.specs.declared.Checkpoint.{Checkpoint}
@@ -47,26 +47,27 @@ save-fits P c buffer room = go (checkpointAnswer P c) refl (checkpoint-plain P c
     go (refused n) e h z = omega (arith, h .2)
     go (refusedAt n at) e h z = omega (arith, h .2)
 
-module _ (old new : List ℕ) where
+module _ (old new substitutes : List ℕ) where
   module _ (minimum : ℕ) (buffer : List ℕ) where
     -- A search is started in any buffer of 270 bytes.
-    pub start-fits : maxBytes ≤ length buffer → starting old new minimum buffer .reply .number ≡ 13 → ⊥
+    pub start-fits : maxBytes ≤ length buffer → starting old new substitutes minimum buffer .reply .number ≡ 13 → ⊥
     unfolding starting
     start-fits room = go (readProblem old new) (outcome-refusing old new)
       where
-        go : (g : ReadOutcome) → Refusing g → startOn g minimum buffer .reply .number ≡ 13 → ⊥
-        go (read P) h z = save-fits P (freshCheckpoint minimum) buffer room z
+        go : (g : ReadOutcome) → Refusing g → startOn g substitutes minimum buffer .reply .number ≡ 13 → ⊥
+        go (read G) h z = save-fits (substituting substitutes G) (freshCheckpoint minimum) buffer room z
         go (refusal a) h z = omega (arith, h .2)
 
   -- The visits of a resumed search are always saved into a buffer of 270 bytes.
   pub no-visit-lost : (bytes : List ℕ) → Bytes bytes → (budget : ℕ) (workspace next : List ℕ) → maxBytes ≤ length next
-      → resuming old new bytes budget workspace next .reply .number ≡ 13 → ⊥
-  no-visit-lost bytes small budget workspace next room = go (resuming old new bytes budget workspace next) (resume-goes old new bytes budget workspace next small)
+      → resuming old new substitutes bytes budget workspace next .reply .number ≡ 13 → ⊥
+  no-visit-lost bytes small budget workspace next room =
+      go (resuming old new substitutes bytes budget workspace next) (resume-goes old new substitutes bytes budget workspace next small)
     where
-      go : (r : Resumed) → ResumedCall old new bytes budget workspace next r → r .reply .number ≡ 13 → ⊥
+      go : (r : Resumed) → ResumedCall old new substitutes bytes budget workspace next r → r .reply .number ≡ 13 → ⊥
       go r (turned some never) z = never z
       go r (short s) z =
-          let P = s .searched .graphs in
+          let P = substituting substitutes (s .searched .graphs) in
           let found = load-in-shape P bytes (s .searched .loaded) in
           let sized = load-sized P bytes small (s .searched .loaded) in
           let left = called-in-shape P _ sized (record { budget = budget; workspace = workspace }) (found .1) in
@@ -74,7 +75,7 @@ module _ (old new : List ℕ) where
       go r (advanced a) z = omega (arith, a .number)
 
   -- A held mapping always fits into 64 bytes.
-  pub read-out-fits : (bytes mapping : List ℕ) → 64 ≤ length mapping → readingOut old new bytes mapping .reply .number ≡ 13 → ⊥
+  pub read-out-fits : (bytes mapping : List ℕ) → 64 ≤ length mapping → readingOut old new substitutes bytes mapping .reply .number ≡ 13 → ⊥
   unfolding readingOut readBytes readCheckpoint
   read-out-fits bytes mapping room = go (readProblem old new) (outcome-refusing old new)
     where
@@ -97,6 +98,6 @@ module _ (old new : List ℕ) where
       read-fits P (refused n) e h z = omega (arith, h .2)
       read-fits P (refusedAt n at) e h z = omega (arith, h .2)
 
-      go : (g : ReadOutcome) → Refusing g → readOutOn g bytes mapping .reply .number ≡ 13 → ⊥
-      go (read P) h z = read-fits P (loading P bytes .answer) refl (loading-plain P bytes) z
+      go : (g : ReadOutcome) → Refusing g → readOutOn g substitutes bytes mapping .reply .number ≡ 13 → ⊥
+      go (read G) h z = let P = substituting substitutes G in read-fits P (loading P bytes .answer) refl (loading-plain P bytes) z
       go (refusal a) h z = omega (arith, h .2)

@@ -3,7 +3,7 @@ use mathlib.Core.Path.{_≡_, ap, _∙_}
 use mathlib.Core.List.{List}
 use Prim.Native.Nat.{ℕ}
 use Rattle.answers.specs.Answer.{Answer}
-use Rattle.problem.specs.Problem.{Problem}
+use Rattle.problem.specs.Problem.{Problem, substituting}
 use Rattle.mapping.specs.Answers.{Outcome}
 use Rattle.mapping.specs.Check.{checkOutcome}
 use Rattle.problem_reader.specs.ProblemReading.{ReadOutcome, read, refusal, readProblem}
@@ -22,53 +22,54 @@ use Rattle.c_api.specs.Checks.{checkOn, checkingMapping}
 use Rattle.c_api.specs.Calls.{started, startedBy, startOn, starting, resumeOn, resuming}
 use Rattle.c_api.specs.ReadOut.{readOutOn, readingOut}
 
-module _ (old new : List ℕ) where
+module _ (old new substitutes : List ℕ) where
   module _ (l : List ℕ) where
-    pub check-refused : (t : Reply) (a : Answer) → t ≡ replyOf a → refusal a ≡ readProblem old new → checked t 0 ≡ checkingMapping old new l
+    pub check-refused : (t : Reply) (a : Answer) → t ≡ replyOf a → refusal a ≡ readProblem old new
+        → checked t 0 ≡ checkingMapping old new substitutes l
     unfolding checkingMapping
-    check-refused t a p e = ap (λ (x : Reply). checked x 0) p ∙ ap (λ (o : ReadOutcome). checkOn o l) e
+    check-refused t a p e = ap (λ (x : Reply). checked x 0) p ∙ ap (λ (o : ReadOutcome). checkOn o substitutes l) e
 
-    pub check-read : (P : Problem) → read P ≡ readProblem old new → (x : CheckedMapping) (o : Outcome) → x ≡ checkedBy o → o ≡ checkOutcome P l
-        → x ≡ checkingMapping old new l
+    pub check-read : (P : Problem) → read P ≡ readProblem old new → (x : CheckedMapping) (o : Outcome) → x ≡ checkedBy o
+        → o ≡ checkOutcome (substituting substitutes P) l → x ≡ checkingMapping old new substitutes l
     unfolding checkingMapping
-    check-read P e x o p q = p ∙ ap checkedBy q ∙ ap (λ (r : ReadOutcome). checkOn r l) e
+    check-read P e x o p q = p ∙ ap checkedBy q ∙ ap (λ (r : ReadOutcome). checkOn r substitutes l) e
 
   module _ (minimum : ℕ) (buffer : List ℕ) where
     pub start-refused : (t : Reply) (a : Answer) → t ≡ replyOf a → refusal a ≡ readProblem old new
-        → started t buffer ≡ starting old new minimum buffer
+        → started t buffer ≡ starting old new substitutes minimum buffer
     unfolding starting
-    start-refused t a p e = ap (λ (x : Reply). started x buffer) p ∙ ap (λ (o : ReadOutcome). startOn o minimum buffer) e
+    start-refused t a p e = ap (λ (x : Reply). started x buffer) p ∙ ap (λ (o : ReadOutcome). startOn o substitutes minimum buffer) e
 
     pub start-read : (P : Problem) → read P ≡ readProblem old new → (t : Reply) (s : SaveAnswer) (after : List ℕ) (c : Checkpoint)
-        → t ≡ replyOf (saveAnswer s) → savingOf s after ≡ saving P c buffer → c ≡ freshCheckpoint minimum
-        → started t after ≡ starting old new minimum buffer
+        → t ≡ replyOf (saveAnswer s) → savingOf s after ≡ saving (substituting substitutes P) c buffer → c ≡ freshCheckpoint minimum
+        → started t after ≡ starting old new substitutes minimum buffer
     unfolding starting
     start-read P e t s after c p q f =
         ap (λ (x : Reply). started x after) p
         ∙ ap startedBy q
-        ∙ ap (λ (x : Checkpoint). startedBy (saving P x buffer)) f
-        ∙ ap (λ (o : ReadOutcome). startOn o minimum buffer) e
+        ∙ ap (λ (x : Checkpoint). startedBy (saving (substituting substitutes P) x buffer)) f
+        ∙ ap (λ (o : ReadOutcome). startOn o substitutes minimum buffer) e
 
   module _ (bytes : List ℕ) (budget : ℕ) (workspace next : List ℕ) where
     pub resume-refused : (t : Reply) (a : Answer) → t ≡ replyOf a → refusal a ≡ readProblem old new
-        → resumed t 0 workspace next ≡ resuming old new bytes budget workspace next
+        → resumed t 0 workspace next ≡ resuming old new substitutes bytes budget workspace next
     unfolding resuming
     resume-refused t a p e =
-        ap (λ (x : Reply). resumed x 0 workspace next) p ∙ ap (λ (o : ReadOutcome). resumeOn o bytes budget workspace next) e
+        ap (λ (x : Reply). resumed x 0 workspace next) p ∙ ap (λ (o : ReadOutcome). resumeOn o substitutes bytes budget workspace next) e
 
     pub resume-read : (P : Problem) → read P ≡ readProblem old new → (r : ResumeReply) (words after : List ℕ)
-        → resumed (r .reply) (r .ceiling) words after ≡ resumeFrom P bytes budget workspace next
-        → resumed (r .reply) (r .ceiling) words after ≡ resuming old new bytes budget workspace next
+        → resumed (r .reply) (r .ceiling) words after ≡ resumeFrom (substituting substitutes P) bytes budget workspace next
+        → resumed (r .reply) (r .ceiling) words after ≡ resuming old new substitutes bytes budget workspace next
     unfolding resuming
-    resume-read P e r words after p = p ∙ ap (λ (o : ReadOutcome). resumeOn o bytes budget workspace next) e
+    resume-read P e r words after p = p ∙ ap (λ (o : ReadOutcome). resumeOn o substitutes bytes budget workspace next) e
 
   module _ (bytes mapping : List ℕ) where
     pub read-out-refused : (t : Reply) (a : Answer) → t ≡ replyOf a → refusal a ≡ readProblem old new
-        → notReadOut mapping t ≡ readingOut old new bytes mapping
+        → notReadOut mapping t ≡ readingOut old new substitutes bytes mapping
     unfolding readingOut
-    read-out-refused t a p e = ap (notReadOut mapping) p ∙ ap (λ (o : ReadOutcome). readOutOn o bytes mapping) e
+    read-out-refused t a p e = ap (notReadOut mapping) p ∙ ap (λ (o : ReadOutcome). readOutOn o substitutes bytes mapping) e
 
-    pub read-out-read : (P : Problem) → read P ≡ readProblem old new → (x : ReadOut) → x ≡ readBytes P bytes mapping
-        → x ≡ readingOut old new bytes mapping
+    pub read-out-read : (P : Problem) → read P ≡ readProblem old new → (x : ReadOut) → x ≡ readBytes (substituting substitutes P) bytes mapping
+        → x ≡ readingOut old new substitutes bytes mapping
     unfolding readingOut
-    read-out-read P e x p = p ∙ ap (λ (o : ReadOutcome). readOutOn o bytes mapping) e
+    read-out-read P e x p = p ∙ ap (λ (o : ReadOutcome). readOutOn o substitutes bytes mapping) e

@@ -5,7 +5,7 @@ use Prim.Native.Nat.{ℕ}
 use native.Mathlib.Omega.{arith}
 use Rattle.answers.specs.Answer.{Answer, passed, accepted, refused, refusedAt, refusalNumber}
 use Rattle.answers.proofs.RefusalNumbers.{RefusalNumber, Plain}
-use Rattle.problem.specs.Problem.{Problem}
+use Rattle.problem.specs.Problem.{Problem, substituting}
 use Rattle.problem_reader.specs.ProblemReading.{ReadOutcome, read, refusal, readProblem}
 use Rattle.problem_reader.proofs.ReadProblem.{Refusing, outcome-refusing}
 use Rattle.checkpoint.specs.declared.Checkpoint.{Checkpoint}
@@ -21,16 +21,20 @@ use Rattle.c_api.specs.ResumedCall.{ResumedCall, refused as turned, shor
 use Rattle.c_api.proofs.SearchWays.{SearchWays, kept, short as unsaved, saved, search-ways}
 use Rattle.c_api.proofs.RefusalNumbers.{loading-plain}
 
-module _ (old new bytes : List ℕ) (budget : ℕ) (workspace next : List ℕ) where
+module _ (old new substitutes bytes : List ℕ) (budget : ℕ) (workspace next : List ℕ) where
   -- how this call goes
   abbrev Goes : Resumed → Type 0
-  Goes = ResumedCall old new bytes budget workspace next
+  Goes = ResumedCall old new substitutes bytes budget workspace next
 
   -- a refusal that is handed on
   turned-away : (a : Answer) → RefusalNumber (refusalNumber a) → Goes (notResumed workspace next a)
   turned-away a h = turned (h .0) (λ e. omega (arith, h .2))
 
-  module _ (small : Bytes bytes) (P : Problem) (graphs-read : readProblem old new ≡ read P) where
+  module _ (small : Bytes bytes) (G : Problem) (graphs-read : readProblem old new ≡ read G) where
+    -- the problem that is searched: the graphs that were read, with the list
+    abbrev P : Problem
+    P = substituting substitutes G
+
     search-goes : loading P bytes .answer ≡ passed → Goes (searchFrom P (loading P bytes .checkpoint) budget workspace next)
     search-goes loaded =
         let found = load-in-shape P bytes loaded in
@@ -47,13 +51,13 @@ module _ (old new bytes : List ℕ) (budget : ℕ) (workspace next : List ℕ) w
         go r (unsaved n a few e) =
             rw e
             (short (record {
-              searched = record { graphs = P; graphs-read = graphs-read; loaded = loaded; ceiling = n; ceiling-is = a };
+              searched = record { graphs = G; graphs-read = graphs-read; loaded = loaded; ceiling = n; ceiling-is = a };
               number = refl;
               too-short = few;
             }))
         go r (saved n count a told top words back) =
             advanced (record {
-              searched = record { graphs = P; graphs-read = graphs-read; loaded = loaded; ceiling = n; ceiling-is = a };
+              searched = record { graphs = G; graphs-read = graphs-read; loaded = loaded; ceiling = n; ceiling-is = a };
               number = ap (λ (t : Reply). t .number) told;
               ceiling-is = top;
               workspace-is = words;
@@ -72,10 +76,10 @@ module _ (old new bytes : List ℕ) (budget : ℕ) (workspace next : List ℕ) w
         go (refusedAt n at) e h = turned-away (refusedAt n at) h
 
   -- 13 is told only where the bytes do not fit, and the bytes of an accepted resume load back to the checkpoint that its search call left.
-  pub resume-goes : Bytes bytes → ResumedCall old new bytes budget workspace next (resuming old new bytes budget workspace next)
+  pub resume-goes : Bytes bytes → ResumedCall old new substitutes bytes budget workspace next (resuming old new substitutes bytes budget workspace next)
   unfolding resuming
   resume-goes small = go (readProblem old new) refl (outcome-refusing old new)
     where
-      go : (g : ReadOutcome) → readProblem old new ≡ g → Refusing g → Goes (resumeOn g bytes budget workspace next)
-      go (read P) e h = load-goes small P e
+      go : (g : ReadOutcome) → readProblem old new ≡ g → Refusing g → Goes (resumeOn g substitutes bytes budget workspace next)
+      go (read G) e h = load-goes small G e
       go (refusal a) e h = turned-away a h

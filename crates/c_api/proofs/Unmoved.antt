@@ -8,7 +8,7 @@ use lib.ListN.{length}
 use Rattle.answers.specs.Answer.{Answer, passed, accepted, refused, refusedAt, refusalNumber}
 use Rattle.answers.specs.Output.{Writing}
 use Rattle.answers.proofs.Choice.{either}
-use Rattle.problem.specs.Problem.{Problem}
+use Rattle.problem.specs.Problem.{Problem, substituting}
 use Rattle.problem_reader.specs.ProblemReading.{ReadOutcome, read, refusal, readProblem}
 use Rattle.checkpoint.specs.Checkpoints.{freshCheckpoint}
 use Rattle.search.specs.Call.{Called, searchCall}
@@ -21,9 +21,9 @@ use Rattle.replies.proofs.CallKept.{Ways, Positive, save-kept}
 use Rattle.c_api.specs.Calls.{startOn, starting, resumeOn, resuming}
 use Rattle.c_api.specs.ReadOut.{readOutOn, readingOut}
 
-module _ (old new : List ℕ) where
-  pub start-unmoved : (minimum : ℕ) (buffer : List ℕ) → 1 ≤ starting old new minimum buffer .reply .number
-      → starting old new minimum buffer .checkpoint ≡ buffer
+module _ (old new substitutes : List ℕ) where
+  pub start-unmoved : (minimum : ℕ) (buffer : List ℕ) → 1 ≤ starting old new substitutes minimum buffer .reply .number
+      → starting old new substitutes minimum buffer .checkpoint ≡ buffer
   unfolding starting
   start-unmoved minimum buffer = go (readProblem old new)
     where
@@ -34,12 +34,14 @@ module _ (old new : List ℕ) where
       on-save P (refused n) h z = h .1
       on-save P (refusedAt n at) h z = h .1
 
-      go : (g : ReadOutcome) → 1 ≤ startOn g minimum buffer .reply .number → startOn g minimum buffer .checkpoint ≡ buffer
-      go (read P) z = on-save P (saving P (freshCheckpoint minimum) buffer .answer) (save-kept P (freshCheckpoint minimum) buffer) z
+      go : (g : ReadOutcome) → 1 ≤ startOn g substitutes minimum buffer .reply .number → startOn g substitutes minimum buffer .checkpoint ≡ buffer
+      go (read G) z =
+          let P = substituting substitutes G in
+          on-save P (saving P (freshCheckpoint minimum) buffer .answer) (save-kept P (freshCheckpoint minimum) buffer) z
       go (refusal a) z = refl
 
   pub resume-unmoved : (bytes : List ℕ) (budget : ℕ) (workspace next : List ℕ)
-      → let r = resuming old new bytes budget workspace next in 1 ≤ r .reply .number → (r .workspace ≡ workspace) × (r .next ≡ next)
+      → let r = resuming old new substitutes bytes budget workspace next in 1 ≤ r .reply .number → (r .workspace ≡ workspace) × (r .next ≡ next)
   unfolding resuming resumeFrom searchFrom
   resume-unmoved bytes budget workspace next = on-graphs (readProblem old new)
     where
@@ -68,12 +70,12 @@ module _ (old new : List ℕ) where
       on-load P l (refused n) z = (refl, refl)
       on-load P l (refusedAt n at) z = (refl, refl)
 
-      on-graphs : (g : ReadOutcome) → Keeps (resumeOn g bytes budget workspace next)
-      on-graphs (read P) z = on-load P (loading P bytes) (loading P bytes .answer) z
+      on-graphs : (g : ReadOutcome) → Keeps (resumeOn g substitutes bytes budget workspace next)
+      on-graphs (read G) z = let P = substituting substitutes G in on-load P (loading P bytes) (loading P bytes .answer) z
       on-graphs (refusal a) z = (refl, refl)
 
-  pub read-out-unmoved : (bytes mapping : List ℕ) → 1 ≤ readingOut old new bytes mapping .reply .number
-      → readingOut old new bytes mapping .mapping ≡ mapping
+  pub read-out-unmoved : (bytes mapping : List ℕ) → 1 ≤ readingOut old new substitutes bytes mapping .reply .number
+      → readingOut old new substitutes bytes mapping .mapping ≡ mapping
   unfolding readingOut readBytes readCheckpoint
   read-out-unmoved bytes mapping = on-graphs (readProblem old new)
     where
@@ -87,6 +89,6 @@ module _ (old new : List ℕ) where
       on-load P l (refused n) z = refl
       on-load P l (refusedAt n at) z = refl
 
-      on-graphs : (g : ReadOutcome) → Keeps (readOutOn g bytes mapping)
-      on-graphs (read P) z = on-load P (loading P bytes) (loading P bytes .answer) z
+      on-graphs : (g : ReadOutcome) → Keeps (readOutOn g substitutes bytes mapping)
+      on-graphs (read G) z = let P = substituting substitutes G in on-load P (loading P bytes) (loading P bytes .answer) z
       on-graphs (refusal a) z = refl

@@ -7,7 +7,7 @@ use Prim.Native.Nat.{ℕ}
 use lib.Dec.{eqb}
 use lib.ListN.{take}
 use Rattle.answers.specs.Answer.{Answer, refusalNumber, onAnswer}
-use Rattle.problem.specs.Problem.{Problem}
+use Rattle.problem.specs.Problem.{Problem, substituting}
 use Rattle.problem_reader.specs.ProblemReading.{read, readProblem}
 use Rattle.search_tree.specs.Search.{searchOf}
 use Rattle.search_tree.specs.Walk.{IsTotal}
@@ -26,30 +26,17 @@ pub record ByteCall : Type 0 where
   pub workspace : List ℕ
   pub next : List ℕ
 
-abbrev pub resume : List ℕ → List ℕ → List ℕ → ByteCall → Resumed
-resume old new bytes x = resuming old new bytes (x .budget) (x .workspace) (x .next)
+-- the search call in it
+abbrev pub searchCallOf : ByteCall → Call
+searchCallOf x = record { budget = x .budget; workspace = x .workspace }
 
 -- the bytes that the next call is given: those that this one wrote, or the same again where it is refused
 abbrev pub bytesAfter : List ℕ → Resumed → List ℕ
 bytesAfter bytes r = cond (eqb (r .reply .number) 0) (take (r .reply .value) (r .next)) bytes
 
--- the bytes after the last call
-unfoldable pub bytesLeft : List ℕ → List ℕ → List ℕ → List ByteCall → List ℕ
-bytesLeft old new bytes [] = bytes
-bytesLeft old new bytes (x ∷ later) = bytesLeft old new (bytesAfter bytes (resume old new bytes x)) later
-
 -- with this call's item at the front, unless the call is refused with 13: such a call counts as if it had not been made
 abbrev pub unless13 : {A : Type 0} → Resumed → A → List A → List A
 unless13 r item rest = cond (eqb (r .reply .number) 13) rest (item ∷ rest)
-
--- the search calls that are made
-abbrev pub searchCallOf : ByteCall → Call
-searchCallOf x = record { budget = x .budget; workspace = x .workspace }
-
-unfoldable pub searchCalls : List ℕ → List ℕ → List ℕ → List ByteCall → List Call
-searchCalls old new bytes [] = []
-searchCalls old new bytes (x ∷ later) =
-    let r = resume old new bytes x in unless13 r (searchCallOf x) (searchCalls old new (bytesAfter bytes r) later)
 
 -- what a caller sees of a search call: the refusal's number or 0, the ceiling or 0, and the workspace afterwards
 pub record Seen : Type 0 where
@@ -66,25 +53,40 @@ seenOf q = record { number = refusalNumber (q .answer); ceiling = ceilingOf (q .
 abbrev pub seenBy : Resumed → Seen
 seenBy r = record { number = r .reply .number; ceiling = r .ceiling; workspace = r .workspace }
 
--- what these calls return
-unfoldable pub returned : List ℕ → List ℕ → List ℕ → List ByteCall → List Seen
-returned old new bytes [] = []
-returned old new bytes (x ∷ later) =
-    let r = resume old new bytes x in unless13 r (seenBy r) (returned old new (bytesAfter bytes r) later)
-
 -- the bytes that an accepted start wrote
 abbrev pub startBytes : Started → List ℕ
 startBytes s = take (s .reply .value) (s .checkpoint)
 
--- Whatever calls follow on these bytes, the third property holds of the search calls that are made, they return what those calls give, and the
--- bytes left load the checkpoint that those calls reach.
-pub record ThroughBytes (old new : List ℕ) (minimum : ℕ) (bytes : List ℕ) : Type 0 where
-  pub graphs : Problem
-  pub graphs-read : readProblem old new ≡ read graphs
-  pub total : ℕ
-  pub is-total : IsTotal (searchOf graphs) minimum total
-  pub property : (calls : List ByteCall) → ThirdProperty graphs minimum total (searchCalls old new bytes calls)
-  pub returns : (calls : List ByteCall)
-      → returned old new bytes calls ≡ map seenOf (results graphs (freshCheckpoint minimum) (searchCalls old new bytes calls))
-  pub loads : (calls : List ByteCall)
-      → loading graphs (bytesLeft old new bytes calls) ≡ loadsTo (reached graphs minimum (searchCalls old new bytes calls))
+-- 02, U1: calls that resume one another take the same list, as they take the same two graphs
+module _ (old new substitutes : List ℕ) where
+  abbrev pub resume : List ℕ → ByteCall → Resumed
+  resume bytes x = resuming old new substitutes bytes (x .budget) (x .workspace) (x .next)
+
+  -- the bytes after the last call
+  unfoldable pub bytesLeft : List ℕ → List ByteCall → List ℕ
+  bytesLeft bytes [] = bytes
+  bytesLeft bytes (x ∷ later) = bytesLeft (bytesAfter bytes (resume bytes x)) later
+
+  -- the search calls that are made
+  unfoldable pub searchCalls : List ℕ → List ByteCall → List Call
+  searchCalls bytes [] = []
+  searchCalls bytes (x ∷ later) = let r = resume bytes x in unless13 r (searchCallOf x) (searchCalls (bytesAfter bytes r) later)
+
+  -- what these calls return
+  unfoldable pub returned : List ℕ → List ByteCall → List Seen
+  returned bytes [] = []
+  returned bytes (x ∷ later) = let r = resume bytes x in unless13 r (seenBy r) (returned (bytesAfter bytes r) later)
+
+  -- Whatever calls follow on these bytes, the third property holds of the search calls that are made, they return what those calls give, and the
+  -- bytes left load the checkpoint that those calls reach.
+  pub record ThroughBytes (minimum : ℕ) (bytes : List ℕ) : Type 0 where
+    pub graphs : Problem
+    pub graphs-read : readProblem old new ≡ read graphs
+    pub total : ℕ
+    pub is-total : IsTotal (searchOf (substituting substitutes graphs)) minimum total
+    pub property : (calls : List ByteCall) → ThirdProperty (substituting substitutes graphs) minimum total (searchCalls bytes calls)
+    pub returns : (calls : List ByteCall)
+        → returned bytes calls ≡ map seenOf (results (substituting substitutes graphs) (freshCheckpoint minimum) (searchCalls bytes calls))
+    pub loads : (calls : List ByteCall)
+        → loading (substituting substitutes graphs) (bytesLeft bytes calls)
+        ≡ loadsTo (reached (substituting substitutes graphs) minimum (searchCalls bytes calls))

@@ -1,9 +1,9 @@
--- Starting and resuming a search whose checkpoint is bytes (01, "Bookmark and calls").
+-- Starting and resuming a search whose checkpoint is bytes (01, "Bookmark and calls"), under a list of substitutes (02, U1).
 use mathlib.Core.List.{List}
 use Prim.Native.Nat.{ℕ}
 use Rattle.answers.specs.Answer.{Answer}
 use Rattle.answers.specs.Output.{Writing}
-use Rattle.problem.specs.Problem.{Problem}
+use Rattle.problem.specs.Problem.{Problem, substituting}
 use Rattle.problem_reader.specs.ProblemReading.{ReadOutcome, onOutcome, readProblem}
 use Rattle.checkpoint.specs.Checkpoints.{freshCheckpoint}
 use Rattle.checkpoint_bytes.specs.Saving.{saving}
@@ -23,18 +23,21 @@ abbrev pub startedBy : Writing → Started
 startedBy w = started (replyOf (w .answer)) (w .buffer)
 
 -- "A fresh one needs a floor only"
-abbrev pub startOn : ReadOutcome → ℕ → List ℕ → Started
-startOn outcome minimum buffer =
-    onOutcome (λ (P : Problem). startedBy (saving P (freshCheckpoint minimum) buffer)) (λ (refusal : Answer). started (replyOf refusal) buffer) outcome
+abbrev pub startOn : ReadOutcome → List ℕ → ℕ → List ℕ → Started
+startOn outcome substitutes minimum buffer =
+    onOutcome
+    (λ (P : Problem). startedBy (saving (substituting substitutes P) (freshCheckpoint minimum) buffer))
+    (λ (refusal : Answer). started (replyOf refusal) buffer)
+    outcome
 
--- the graphs' refusals, then 13 where the bytes do not fit
-unfoldable pub starting : List ℕ → List ℕ → ℕ → List ℕ → Started
-starting old new minimum buffer = startOn (readProblem old new) minimum buffer
+-- the graphs' refusals, the list's, then 13 where the bytes do not fit
+unfoldable pub starting : List ℕ → List ℕ → List ℕ → ℕ → List ℕ → Started
+starting old new substitutes minimum buffer = startOn (readProblem old new) substitutes minimum buffer
 
-abbrev pub resumeOn : ReadOutcome → List ℕ → ℕ → List ℕ → List ℕ → Resumed
-resumeOn outcome bytes budget workspace next =
-    onOutcome (λ (P : Problem). resumeFrom P bytes budget workspace next) (notResumed workspace next) outcome
+abbrev pub resumeOn : ReadOutcome → List ℕ → List ℕ → ℕ → List ℕ → List ℕ → Resumed
+resumeOn outcome substitutes bytes budget workspace next =
+    onOutcome (λ (P : Problem). resumeFrom (substituting substitutes P) bytes budget workspace next) (notResumed workspace next) outcome
 
--- the graphs' refusals, those of the checkpoint bytes, those of the search call, and last 13
-unfoldable pub resuming : List ℕ → List ℕ → List ℕ → ℕ → List ℕ → List ℕ → Resumed
-resuming old new bytes budget workspace next = resumeOn (readProblem old new) bytes budget workspace next
+-- the graphs' refusals, the list's, those of the checkpoint bytes, those of the search call, and last 13
+unfoldable pub resuming : List ℕ → List ℕ → List ℕ → List ℕ → ℕ → List ℕ → List ℕ → Resumed
+resuming old new substitutes bytes budget workspace next = resumeOn (readProblem old new) substitutes bytes budget workspace next

@@ -1,16 +1,19 @@
--- Reading out a checkpoint that is bytes, for two graphs that are bytes (01, "Bookmark and calls").
+-- Reading out a checkpoint that is bytes, for two graphs that are bytes and a list of substitutes (01, "Bookmark and calls"; 02, U1).
 use mathlib.Core.List.{List}
 use Prim.Native.Nat.{ℕ}
 use Rattle.answers.specs.Answer.{Answer}
-use Rattle.problem.specs.Problem.{Problem}
+use Rattle.problem.specs.Problem.{Problem, substituting}
 use Rattle.problem_reader.specs.ProblemReading.{ReadOutcome, onOutcome, readProblem}
 use Rattle.replies.specs.Reply.{replyOf}
 use Rattle.replies.specs.ReadOut.{ReadOut, notReadOut, readBytes}
 
-abbrev pub readOutOn : ReadOutcome → List ℕ → List ℕ → ReadOut
-readOutOn outcome bytes mapping =
-    onOutcome (λ (P : Problem). readBytes P bytes mapping) (λ (refusal : Answer). notReadOut mapping (replyOf refusal)) outcome
+abbrev pub readOutOn : ReadOutcome → List ℕ → List ℕ → List ℕ → ReadOut
+readOutOn outcome substitutes bytes mapping =
+    onOutcome
+    (λ (P : Problem). readBytes (substituting substitutes P) bytes mapping)
+    (λ (refusal : Answer). notReadOut mapping (replyOf refusal))
+    outcome
 
--- the graphs' refusals, those of the checkpoint bytes, and last 13 where a held mapping does not fit
-unfoldable pub readingOut : List ℕ → List ℕ → List ℕ → List ℕ → ReadOut
-readingOut old new bytes mapping = readOutOn (readProblem old new) bytes mapping
+-- the graphs' refusals, the list's, those of the checkpoint bytes, and last 13 where a held mapping does not fit
+unfoldable pub readingOut : List ℕ → List ℕ → List ℕ → List ℕ → List ℕ → ReadOut
+readingOut old new substitutes bytes mapping = readOutOn (readProblem old new) substitutes bytes mapping

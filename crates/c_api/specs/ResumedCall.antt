@@ -5,7 +5,7 @@ use mathlib.Core.List.{List}
 use Prim.Native.Nat.{ℕ, _≤_, _<_}
 use lib.ListN.{length, take}
 use Rattle.answers.specs.Answer.{passed, accepted}
-use Rattle.problem.specs.Problem.{Problem}
+use Rattle.problem.specs.Problem.{Problem, substituting}
 use Rattle.problem_reader.specs.ProblemReading.{read, readProblem}
 use Rattle.checkpoint.specs.declared.Checkpoint.{Checkpoint}
 use Rattle.search.specs.Call.{Called, searchCall}
@@ -21,33 +21,36 @@ loadedCall P bytes budget workspace = searchCall P (loading P bytes .checkpoint)
 abbrev pub loadsTo : Checkpoint → Loading
 loadsTo c = record { answer = passed; checkpoint = c }
 
--- graphs that are read, a checkpoint that is loaded, and a search call on it that is accepted
-pub record SearchMade (old new bytes : List ℕ) (budget : ℕ) (workspace : List ℕ) : Type 0 where
-  pub graphs : Problem
-  pub graphs-read : readProblem old new ≡ read graphs
-  pub loaded : loading graphs bytes .answer ≡ passed
-  pub ceiling : ℕ
-  pub ceiling-is : loadedCall graphs bytes budget workspace .answer ≡ accepted ceiling
+module _ (old new substitutes bytes : List ℕ) (budget : ℕ) (workspace : List ℕ) where
+  -- graphs that are read, a checkpoint that is loaded for them with the list, and a search call on it that is accepted
+  pub record SearchMade : Type 0 where
+    pub graphs : Problem
+    pub graphs-read : readProblem old new ≡ read graphs
+    pub loaded : loading (substituting substitutes graphs) bytes .answer ≡ passed
+    pub ceiling : ℕ
+    pub ceiling-is : loadedCall (substituting substitutes graphs) bytes budget workspace .answer ≡ accepted ceiling
 
--- "13 too short": what the search call left does not fit
-pub record Short (old new bytes : List ℕ) (budget : ℕ) (workspace next : List ℕ) (r : Resumed) : Type 0 where
-  pub searched : SearchMade old new bytes budget workspace
-  pub number : r .reply .number ≡ 13
-  pub too-short : length next
-      < length (checkpointBytes (searched .graphs .old .order) (loadedCall (searched .graphs) bytes budget workspace .checkpoint))
+  -- what that call gives
+  abbrev pub callMade : SearchMade → Called
+  callMade s = loadedCall (substituting substitutes (s .graphs)) bytes budget workspace
 
--- an accepted resume: the ceiling and the workspace are that call's, and the bytes written load back to the checkpoint that it left
-pub record Advanced (old new bytes : List ℕ) (budget : ℕ) (workspace : List ℕ) (r : Resumed) : Type 0 where
-  pub searched : SearchMade old new bytes budget workspace
-  pub number : r .reply .number ≡ 0
-  pub ceiling-is : r .ceiling ≡ searched .ceiling
-  pub workspace-is : r .workspace ≡ loadedCall (searched .graphs) bytes budget workspace .workspace
-  pub saved : loading (searched .graphs) (take (r .reply .value) (r .next))
-      ≡ loadsTo (loadedCall (searched .graphs) bytes budget workspace .checkpoint)
+  -- "13 too short": what the search call left does not fit
+  pub record Short (next : List ℕ) (r : Resumed) : Type 0 where
+    pub searched : SearchMade
+    pub number : r .reply .number ≡ 13
+    pub too-short : length next < length (checkpointBytes (searched .graphs .old .order) (callMade searched .checkpoint))
 
--- the three ways
-pub data ResumedCall (old new bytes : List ℕ) (budget : ℕ) (workspace next : List ℕ) (r : Resumed) : Type 0 where
-  -- by a test that comes before the output's
-  refused : 1 ≤ r .reply .number → (r .reply .number ≡ 13 → ⊥) → ResumedCall old new bytes budget workspace next r
-  short : Short old new bytes budget workspace next r → ResumedCall old new bytes budget workspace next r
-  advanced : Advanced old new bytes budget workspace r → ResumedCall old new bytes budget workspace next r
+  -- an accepted resume: the ceiling and the workspace are that call's, and the bytes written load back to the checkpoint that it left
+  pub record Advanced (r : Resumed) : Type 0 where
+    pub searched : SearchMade
+    pub number : r .reply .number ≡ 0
+    pub ceiling-is : r .ceiling ≡ searched .ceiling
+    pub workspace-is : r .workspace ≡ callMade searched .workspace
+    pub saved : loading (substituting substitutes (searched .graphs)) (take (r .reply .value) (r .next)) ≡ loadsTo (callMade searched .checkpoint)
+
+  -- the three ways
+  pub data ResumedCall (next : List ℕ) (r : Resumed) : Type 0 where
+    -- by a test that comes before the output's
+    refused : 1 ≤ r .reply .number → (r .reply .number ≡ 13 → ⊥) → ResumedCall next r
+    short : Short next r → ResumedCall next r
+    advanced : Advanced r → ResumedCall next r

@@ -26,17 +26,18 @@ pub extern "C" fn golfcedar_check_graph(graph: &[u8], value: &mut u64) -> u32
     reply.number
 }
 
-// Whether the mapping is a common subgraph of the two graphs.
+// Whether the mapping is a common subgraph of the two graphs, under the substitutes.
 #[no_mangle]
 pub extern "C" fn golfcedar_check_mapping(
     old_graph: &[u8],
     new_graph: &[u8],
+    substitutes: &[u8],
     mapping: &[u8],
     value: &mut u64,
     earlier: &mut u64,
 ) -> u32
     ensures { λ r. ⌜ checked (reply r (now (value .exit))) (now (earlier .exit))
-        ≡ checkingMapping (now («old_graph» .entry)) (now («new_graph» .entry)) (now (mapping .entry)) ⌝ }
+        ≡ checkingMapping (now («old_graph» .entry)) (now («new_graph» .entry)) (now (substitutes .entry)) (now (mapping .entry)) ⌝ }
 {
     let mut old_labels = [0 as Label; MAX_ORDER];
     let mut old_edges = [0u8; EDGE_BYTES];
@@ -61,6 +62,7 @@ pub extern "C" fn golfcedar_check_mapping(
                 [old_order, new_order],
                 [&old_labels, &new_labels],
                 [&old_edges, &new_edges],
+                substitutes,
                 mapping,
             ));
             *value = checked.reply.value;
@@ -75,12 +77,13 @@ pub extern "C" fn golfcedar_check_mapping(
 pub extern "C" fn golfcedar_start(
     old_graph: &[u8],
     new_graph: &[u8],
+    substitutes: &[u8],
     minimum: u8,
     checkpoint: &mut [u8],
     value: &mut u64,
 ) -> u32
     ensures { λ r. ⌜ started (reply r (now (value .exit))) (now (checkpoint .exit))
-        ≡ starting (now («old_graph» .entry)) (now («new_graph» .entry)) minimum (now (checkpoint .entry)) ⌝ }
+        ≡ starting (now («old_graph» .entry)) (now («new_graph» .entry)) (now (substitutes .entry)) minimum (now (checkpoint .entry)) ⌝ }
 {
     let mut old_labels = [0 as Label; MAX_ORDER];
     let mut old_edges = [0u8; EDGE_BYTES];
@@ -105,6 +108,7 @@ pub extern "C" fn golfcedar_start(
                 [old_order, new_order],
                 [&old_labels, &new_labels],
                 [&old_edges, &new_edges],
+                substitutes,
                 fresh,
                 checkpoint,
             ));
@@ -119,6 +123,7 @@ pub extern "C" fn golfcedar_start(
 pub extern "C" fn golfcedar_resume(
     old_graph: &[u8],
     new_graph: &[u8],
+    substitutes: &[u8],
     checkpoint: &[u8],
     budget: u64,
     workspace: &mut [u64],
@@ -127,7 +132,8 @@ pub extern "C" fn golfcedar_resume(
     ceiling: &mut u64,
 ) -> u32
     ensures { λ r. ⌜ resumed (reply r (now (value .exit))) (now (ceiling .exit)) (now (workspace .exit)) (now (next .exit))
-        ≡ resuming (now («old_graph» .entry)) (now («new_graph» .entry)) (now (checkpoint .entry)) budget (now (workspace .entry)) (now (next .entry)) ⌝ }
+        ≡ resuming (now («old_graph» .entry)) (now («new_graph» .entry)) (now (substitutes .entry)) (now (checkpoint .entry)) budget
+        (now (workspace .entry)) (now (next .entry)) ⌝ }
 {
     let mut old_labels = [0 as Label; MAX_ORDER];
     let mut old_edges = [0u8; EDGE_BYTES];
@@ -152,6 +158,7 @@ pub extern "C" fn golfcedar_resume(
                 [old_order, new_order],
                 [&old_labels, &new_labels],
                 [&old_edges, &new_edges],
+                substitutes,
                 checkpoint,
                 budget,
                 workspace,
@@ -169,6 +176,7 @@ pub extern "C" fn golfcedar_resume(
 pub extern "C" fn golfcedar_read_out(
     old_graph: &[u8],
     new_graph: &[u8],
+    substitutes: &[u8],
     checkpoint: &[u8],
     mapping: &mut [u8],
     value: &mut u64,
@@ -177,7 +185,7 @@ pub extern "C" fn golfcedar_read_out(
     ceiling: &mut u64,
 ) -> u32
     ensures { λ r. ⌜ readOut (reply r (now (value .exit))) (now (steps .exit)) (now (size .exit)) (now (ceiling .exit)) (now (mapping .exit))
-        ≡ readingOut (now («old_graph» .entry)) (now («new_graph» .entry)) (now (checkpoint .entry)) (now (mapping .entry)) ⌝ }
+        ≡ readingOut (now («old_graph» .entry)) (now («new_graph» .entry)) (now (substitutes .entry)) (now (checkpoint .entry)) (now (mapping .entry)) ⌝ }
 {
     *steps = 0;
     *size = 0;
@@ -204,6 +212,7 @@ pub extern "C" fn golfcedar_read_out(
                 [old_order, new_order],
                 [&old_labels, &new_labels],
                 [&old_edges, &new_edges],
+                substitutes,
                 checkpoint,
                 mapping,
             );

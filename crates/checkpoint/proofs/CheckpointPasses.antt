@@ -1,10 +1,11 @@
--- A checkpoint passes its check exactly where both graphs are sound and it is in shape; a refusal has a number of 01's and no place.
+-- A checkpoint passes its check exactly where the graphs and the list are sound and it is in shape; a refusal has a number of the documents' and no place.
 use mathlib.Core.Path.{_≡_, refl}
 use mathlib.Core.Bool.{Bool, true, false, cond, true≢false}
 use native.Mathlib.Omega.{arith}
-use Rattle.answers.specs.Answer.{Answer, passed, accepted, refused, refusedAt}
+use Rattle.answers.specs.Answer.{passed, refused}
+use Rattle.answers.proofs.Choice.{either}
 use Rattle.answers.proofs.RefusalNumbers.{Plain}
-use Rattle.answers.specs.Answer.{firstRefusal}
+use Rattle.answers.proofs.FirstRefusal.{both-passed, first-plain}
 use Rattle.problem.specs.Problem.{Problem, SoundProblem, problemAnswer}
 use Rattle.problem.proofs.ProblemPasses.{problem-passes, passes-problem, problem-plain}
 use Rattle.checkpoint.specs.declared.Checkpoint.{Checkpoint}
@@ -19,24 +20,14 @@ shape-passes P c sound shape = rw (problem-passes P sound, shape-test P sound c 
 pub passes-shape : (P : Problem) (c : Checkpoint) → checkpointAnswer P c ≡ passed → SoundProblem P × InShape P c
 unfolding checkpointAnswer
 passes-shape P c e =
-    let both = go (problemAnswer P) (inShape P c) e in
+    let both = both-passed (problemAnswer P) _ e in
     let sound = passes-problem P (both .0) in
-    (sound, shape-test P sound c .0 (both .1))
+    (sound, shape-test P sound c .0 (tested (inShape P c) (both .1)))
   where
-    go : (a : Answer) (t : Bool) → firstRefusal a (cond t passed (refused 14)) ≡ passed → (a ≡ passed) × (t ≡ true)
-    go passed true e = (refl, refl)
-    go passed false e = absurd (true≢false (cc))
-    go (accepted n) t e = absurd (true≢false (cc))
-    go (refused n) t e = absurd (true≢false (cc))
-    go (refusedAt n at) t e = absurd (true≢false (cc))
+    tested : (t : Bool) → cond t passed (refused 14) ≡ passed → t ≡ true
+    tested true e = refl
+    tested false e = absurd (true≢false (cc))
 
 pub checkpoint-plain : (P : Problem) (c : Checkpoint) → Plain (checkpointAnswer P c)
 unfolding checkpointAnswer
-checkpoint-plain P c = go (problemAnswer P) (problem-plain P) (inShape P c)
-  where
-    go : (a : Answer) → Plain a → (t : Bool) → Plain (firstRefusal a (cond t passed (refused 14)))
-    go passed h true = tt
-    go passed h false = omega arith
-    go (accepted n) h t = absurd h
-    go (refused n) h t = h
-    go (refusedAt n at) h t = h
+checkpoint-plain P c = first-plain (problemAnswer P) _ (problem-plain P) (either Plain (inShape P c) tt (omega arith))

@@ -60,7 +60,7 @@ module _ (P : Problem) (c : Checkpoint) (long : length (c .path) ≡ 64) (sound 
         (same-answer _ _ tells-reached (tells-reaches P sound 0 _)
         (λ r. (reached-common P sound _ .0 r .1, zero-le), λ e. reached-common P sound _ .1 (omega (arith, decided), e .0)))
 
-  -- between two sound graphs a checkpoint is in shape exactly where the tests pass with what the check says of the two mappings
+  -- in a sound problem a checkpoint is in shape exactly where the tests pass with what the check says of the two mappings
   shape-by-check : inShape P c
       ≡ shapeTests (P .old .order) (reaches 0 (listOutcome P (take (P .old .order) (filledTo (c .path) (c .depth))))) (incumbentFits P c) c
   unfolding inShape

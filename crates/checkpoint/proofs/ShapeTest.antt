@@ -136,7 +136,7 @@ shape-clauses P c s = (
     incumbent i l false e d = inr (s .none-rest e i l)
 
 module _ (P : Problem) (sound : SoundProblem P) where
-  -- Between two sound graphs the check of a list is all of the check.
+  -- In a sound problem the check of a list is all of the check.
   pub list-check : (l : List ℕ) → checkOutcome P l ≡ listOutcome P l
   unfolding checkOutcome
   list-check l = rw (problem-passes P sound)

@@ -1,4 +1,4 @@
-// The checkpoint of a search, and the test of its shape for two graphs.
+// The checkpoint of a search, and the test of its shape for two graphs and a list of substitutes.
 
 mod shape;
 
@@ -49,14 +49,15 @@ pub enum ShapeAnswer {
     OutOfShape,
 }
 
-// Whether the checkpoint is in shape for the two graphs.
+// Whether the checkpoint is in shape for the two graphs and the substitutes.
 pub fn check_checkpoint<'a>(
     orders: Orders,
     labels: Labels<'a>,
     edges: Edges<'a>,
+    substitutes: &[u8],
     checkpoint: Checkpoint,
 ) -> ShapeAnswer
-    ensures { λ r. ⌜ shapeAnswer r ≡ checkpointAnswer (lent orders (labels .entry) (edges .entry)) checkpoint ⌝ }
+    ensures { λ r. ⌜ shapeAnswer r ≡ checkpointAnswer (lent orders (labels .entry) (edges .entry) (now (substitutes .entry))) checkpoint ⌝ }
 {
     let order = orders[0];
     let rows = shape::rows(order);
@@ -64,7 +65,14 @@ pub fn check_checkpoint<'a>(
     let entries = shape::filled(path, checkpoint.depth);
     // where nothing is held these bytes are checked all the same, and `in_shape` does not ask what was found
     let incumbent = checkpoint.incumbent;
-    match mapping::check_mappings(orders, labels, edges, &entries[..rows], &incumbent[..rows]) {
+    match mapping::check_mappings(
+        orders,
+        labels,
+        edges,
+        substitutes,
+        &entries[..rows],
+        &incumbent[..rows],
+    ) {
         MappingsAnswer::Flawed(flaw) => ShapeAnswer::Flawed(flaw),
         MappingsAnswer::Checked(reached, held) => {
             if !shape::in_shape(order, checkpoint, reached, held) {

@@ -15,7 +15,7 @@ use Rattle.checkpoint_bytes.proofs.SaveLoad.{reloaded-same}
 use Rattle.checkpoint_bytes.proofs.CalledSized.{fresh-sized, called-sized}
 
 module _ (P : Problem) where
-  -- So it is from any checkpoint that the code can have, for any two graphs.
+  -- So it is from any checkpoint that the code can have, for any problem.
   pub between-from : (c : Checkpoint) → Sized c → (calls : List SavedCall) → SameAsCalls P c calls
   unfolding savedResults savedLeaves results leaves callsOf
   between-from c sized [] = (refl, refl)

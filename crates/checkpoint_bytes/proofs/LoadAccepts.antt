@@ -44,7 +44,7 @@ module _ (P : Problem) (bytes : List ℕ) where
       go (refused n) p fault q t r = fresh-refused (refused n) (λ e. true≢false (cc)) refl
       go (refusedAt n at) p fault q t r = fresh-refused (refusedAt n at) (λ e. true≢false (cc)) refl
 
-  -- An accepted load is of bytes in the form, for two sound graphs, and gives what they say, in shape.
+  -- An accepted load is of bytes in the form, for a sound problem, and gives what they say, in shape.
   pub load-accepted : loading P bytes .answer ≡ passed → Accepted P bytes
   load-accepted e = go (loading P bytes) refl loaded-or-refused
     where

@@ -1,4 +1,5 @@
--- What checkpoint bytes say, and loading them: 01, "Bookmark and calls", last paragraph, and the rows "Bookmark bytes" and "Bookmark" of the refusals.
+-- What checkpoint bytes say, and loading them: 01, "Bookmark and calls", last paragraph, and the rows "Bookmark bytes" and "Bookmark" of the refusals;
+-- 02, U1, "Saving and loading a bookmark take the list too".
 use mathlib.Core.Bool.{cond}
 use mathlib.Core.List.{List, [], _∷_}
 use mathlib.Core.Option.{Option, none, some}
@@ -58,6 +59,6 @@ abbrev pub onForm : Problem → List ℕ → Option ℕ → Loading
 onForm P bytes (some at) = refuse (refusedAt 17 at)
 onForm P bytes none = onShape P (said (P .old .order) bytes)
 
--- 10, 11 and 12; then 17 with its place; then 14
+-- 10, 11, 12, 23 and 24; then 17 with its place; then 14
 unfoldable pub loading : Problem → List ℕ → Loading
 loading P bytes = whenPassed (problemAnswer P) (onForm P bytes (formFault (P .old .order) bytes)) refuse

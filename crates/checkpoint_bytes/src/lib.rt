@@ -98,12 +98,14 @@ pub fn save_checkpoint<'a>(
     orders: Orders,
     labels: Labels<'a>,
     edges: Edges<'a>,
+    substitutes: &[u8],
     checkpoint: Checkpoint,
     out: &mut [u8],
 ) -> SaveAnswer
-    ensures { λ r. ⌜ savingOf r (now (out .exit)) ≡ saving (lent orders (labels .entry) (edges .entry)) checkpoint (now (out .entry)) ⌝ }
+    ensures { λ r. ⌜ savingOf r (now (out .exit))
+        ≡ saving (lent orders (labels .entry) (edges .entry) (now (substitutes .entry))) checkpoint (now (out .entry)) ⌝ }
 {
-    match checkpoint::check_checkpoint(orders, labels, edges, checkpoint) {
+    match checkpoint::check_checkpoint(orders, labels, edges, substitutes, checkpoint) {
         ShapeAnswer::Flawed(flaw) => SaveAnswer::Flawed(flaw),
         ShapeAnswer::OutOfShape => SaveAnswer::OutOfShape,
         ShapeAnswer::InShape => saver::save_in_shape(orders[0], checkpoint, out),
@@ -120,16 +122,17 @@ fn refuse(answer: LoadAnswer) -> Loaded
     }
 }
 
-// The checkpoint that the bytes say, if they are in the form and it is in shape for the two graphs.
+// The checkpoint that the bytes say, if they are in the form and it is in shape for the two graphs and the substitutes.
 pub fn load_checkpoint<'a>(
     orders: Orders,
     labels: Labels<'a>,
     edges: Edges<'a>,
+    substitutes: &[u8],
     bytes: &[u8],
 ) -> Loaded
-    ensures { λ r. ⌜ loadingOf r ≡ loading (lent orders (labels .entry) (edges .entry)) (now (bytes .entry)) ⌝ }
+    ensures { λ r. ⌜ loadingOf r ≡ loading (lent orders (labels .entry) (edges .entry) (now (substitutes .entry))) (now (bytes .entry)) ⌝ }
 {
-    match problem::check_problem(orders, labels, edges) {
+    match problem::check_problem(orders, labels, edges, substitutes) {
         ProblemAnswer::Flawed(flaw) => {
             return refuse(LoadAnswer::Flawed(flaw));
         }
@@ -142,7 +145,7 @@ pub fn load_checkpoint<'a>(
         Form::Whole => {}
     }
     let checkpoint = loader::read_formed(orders[0], bytes);
-    match checkpoint::check_checkpoint(orders, labels, edges, checkpoint) {
+    match checkpoint::check_checkpoint(orders, labels, edges, substitutes, checkpoint) {
         ShapeAnswer::InShape => Loaded {
             answer: LoadAnswer::InShape,
             checkpoint,

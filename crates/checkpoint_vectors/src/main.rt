@@ -1,5 +1,5 @@
 // Saves and loads checkpoints and writes what each call says. The bytes and the expected output were worked out by hand from document 01,
-// "Bookmark and calls" and "Refusals by place of checking".
+// "Bookmark and calls" and "Refusals by place of checking", and those with a list of substitutes from document 02, U1.
 
 mod lines;
 
@@ -25,8 +25,15 @@ fn read(bytes: &[u8], labels: &mut [u8], edges: &mut [u8]) -> usize {
 }
 
 // Loads the bytes, and saves what was loaded.
-fn load<'a>(name: &[u8], orders: Orders, labels: Labels<'a>, edges: Edges<'a>, bytes: &[u8]) {
-    let loaded = checkpoint_bytes::load_checkpoint(orders, labels, edges, bytes);
+fn load<'a>(
+    name: &[u8],
+    orders: Orders,
+    labels: Labels<'a>,
+    edges: Edges<'a>,
+    substitutes: &[u8],
+    bytes: &[u8],
+) {
+    let loaded = checkpoint_bytes::load_checkpoint(orders, labels, edges, substitutes, bytes);
     let answer = loaded.answer;
     let checkpoint = loaded.checkpoint;
     lines::word(name);
@@ -38,6 +45,7 @@ fn load<'a>(name: &[u8], orders: Orders, labels: Labels<'a>, edges: Edges<'a>, b
             orders,
             labels,
             edges,
+            substitutes,
             checkpoint,
             &mut buffer,
         ));
@@ -46,7 +54,7 @@ fn load<'a>(name: &[u8], orders: Orders, labels: Labels<'a>, edges: Edges<'a>, b
     lines::word(b"\n");
 }
 
-fn case(name: &[u8], old: &[u8], new: &[u8], bytes: &[u8]) {
+fn case(name: &[u8], old: &[u8], new: &[u8], substitutes: &[u8], bytes: &[u8]) {
     let mut old_labels = [0u8; 64];
     let mut old_edges = [0u8; 4096];
     let mut new_labels = [0u8; 64];
@@ -58,16 +66,18 @@ fn case(name: &[u8], old: &[u8], new: &[u8], bytes: &[u8]) {
         [old_order, new_order],
         [&old_labels, &new_labels],
         [&old_edges, &new_edges],
+        substitutes,
         bytes,
     );
 }
 
-// 01's pair P. Old kinds 7, 9, 7, links 0-1 and 1-2 of kind 1; new kinds 9, 7, link 0-1 of kind 1.
+// 01's pair P, with no substitutes. Old kinds 7, 9, 7, links 0-1 and 1-2 of kind 1; new kinds 9, 7, link 0-1 of kind 1.
 fn on_p(name: &[u8], bytes: &[u8]) {
     case(
         name,
         b"\x01\x07\x01\x09\x01\x07\x02\x00\x01\x01\x02\x01\x02\x01\x00",
         b"\x01\x09\x01\x07\x02\x00\x01\x01\x00",
+        b"",
         bytes,
     );
 }
@@ -256,25 +266,32 @@ fn full() {
     bytes[12] = 1;
     put_identity(19, &mut bytes, 13);
     put_identity(20, &mut bytes, 141);
-    case(b"64 vertices at full depth", &graph, &graph, &bytes);
+    case(b"64 vertices at full depth", &graph, &graph, b"", &bytes);
 }
 
 // Loads no bytes at all for two graphs without edges, which both have this label at 63 and no other.
-fn load_nothing(name: &[u8], orders: Orders, label: u8) {
+fn load_nothing(name: &[u8], orders: Orders, label: u8, substitutes: &[u8]) {
     let mut labels = [0u8; 64];
     labels[63] = label;
     let edges = [0u8; 4096];
-    load(name, orders, [&labels, &labels], [&edges, &edges], b"");
+    load(
+        name,
+        orders,
+        [&labels, &labels],
+        [&edges, &edges],
+        substitutes,
+        b"",
+    );
 }
 
 // Graphs that are not sound are refused before bytes that are malformed.
 fn unsound() {
-    load_nothing(b"order 65", [65, 0], 0);
-    load_nothing(b"old labels unsound, and malformed", [0, 0], 9);
+    load_nothing(b"order 65", [65, 0], 0, b"");
+    load_nothing(b"old labels unsound, and malformed", [0, 0], 9, b"");
 }
 
 // Saves a checkpoint that was never loaded.
-fn save(name: &[u8], depth: usize, edge: u8, out: &mut [u8]) {
+fn save(name: &[u8], depth: usize, edge: u8, substitutes: &[u8], out: &mut [u8]) {
     let mut labels = [0u8; 64];
     let mut edges = [0u8; 4096];
     labels[0] = 7;
@@ -289,6 +306,7 @@ fn save(name: &[u8], depth: usize, edge: u8, out: &mut [u8]) {
         [3, 3],
         [&labels, &labels],
         [&edges, &edges],
+        substitutes,
         Checkpoint {
             minimum: 0,
             steps: 9,
@@ -305,6 +323,111 @@ fn save(name: &[u8], depth: usize, edge: u8, out: &mut [u8]) {
     lines::word(b"\n");
 }
 
+// An old vertex of label 7, a new vertex of label 9, and a list of substitutes.
+fn on_seven_nine(name: &[u8], substitutes: &[u8], bytes: &[u8]) {
+    case(name, b"\x01\x07\x00", b"\x01\x09\x00", substitutes, bytes);
+}
+
+// After one visit the old vertex lies on the new one: in shape only where the list has the pair 7, 9.
+fn one_visit(name: &[u8], substitutes: &[u8]) {
+    on_seven_nine(
+        name,
+        substitutes,
+        b"\x10\x00\x11\x01\x00\x00\x00\x00\x00\x00\x00\x12\x00\x13\x00\x00",
+    );
+}
+
+// The search is finished, and holds the one pair.
+fn held(name: &[u8], substitutes: &[u8]) {
+    on_seven_nine(
+        name,
+        substitutes,
+        b"\x10\x01\x11\x03\x00\x00\x00\x00\x00\x00\x00\x12\x03\x14\x00\x00",
+    );
+}
+
+fn pairs() {
+    one_visit(b"one visit, pair 7 9", b"\x07\x09");
+    one_visit(b"one visit, no list", b"");
+    one_visit(b"one visit, pair 9 7", b"\x09\x07");
+    one_visit(b"one visit, 7 9 the second pair", b"\x01\x02\x07\x09");
+    one_visit(b"one visit, 7 9 across two pairs", b"\x01\x07\x09\x02");
+    one_visit(b"one visit, chain 7 8 and 8 9", b"\x07\x08\x08\x09");
+    held(b"held, pair 7 9", b"\x07\x09");
+    held(b"held, no list", b"");
+}
+
+// 512 bytes whose last pair is 7, 9, and two bytes more.
+fn longest() {
+    let mut list = [7u8; 514];
+    list[511] = 9;
+    one_visit(b"one visit, list of 512 bytes", &list[..512]);
+    one_visit(b"one visit, list of 514 bytes", &list);
+}
+
+// A list that is not sound is refused after graphs that are not, and before bytes that are malformed.
+fn unsound_lists() {
+    on_seven_nine(b"odd list, and malformed", b"\x07", b"");
+    on_seven_nine(b"odd list with a label 0", b"\x07\x00\x07", b"");
+    on_seven_nine(b"new label 0 in the list, and malformed", b"\x07\x00", b"");
+    on_seven_nine(b"old label 0 in the list", b"\x07\x09\x00\x09", b"");
+    load_nothing(b"old labels unsound, and odd list", [0, 0], 9, b"\x07");
+}
+
+// Saves the checkpoint after one visit, and compares the buffer with the bytes that are due.
+fn save_one_visit(name: &[u8], substitutes: &[u8], due: &[u8]) {
+    let mut old_labels = [0u8; 64];
+    let mut new_labels = [0u8; 64];
+    let edges = [0u8; 4096];
+    old_labels[0] = 7;
+    new_labels[0] = 9;
+    let mut out = [170u8; 300];
+    let answer = checkpoint_bytes::save_checkpoint(
+        [1, 1],
+        [&old_labels, &new_labels],
+        [&edges, &edges],
+        substitutes,
+        Checkpoint {
+            minimum: 0,
+            steps: 1,
+            depth: 1,
+            path: [0u8; 64],
+            finished: false,
+            holds: false,
+            incumbent: [0u8; 64],
+        },
+        &mut out,
+    );
+    lines::word(name);
+    lines::saved(answer);
+    lines::compared(due, &out);
+    lines::word(b"\n");
+}
+
+fn saved_with_lists() {
+    save_one_visit(
+        b"one visit saved, pair 7 9",
+        b"\x07\x09",
+        b"\x10\x00\x11\x01\x00\x00\x00\x00\x00\x00\x00\x12\x00\x13\x00\x00",
+    );
+    save_one_visit(b"one visit saved, no list", b"", b"");
+    let mut shorter = [170u8; 17];
+    save(
+        b"odd list, out of shape, and one byte short",
+        2,
+        0,
+        b"\x07",
+        &mut shorter,
+    );
+    save(
+        b"label 0 in the list, and out of shape",
+        2,
+        0,
+        b"\x07\x00",
+        &mut shorter,
+    );
+}
+
 fn main() {
     accepted();
     malformed();
@@ -313,6 +436,7 @@ fn main() {
         b"both empty, finished",
         b"\x00",
         b"\x00",
+        b"",
         b"\x10\x00\x11\x01\x00\x00\x00\x00\x00\x00\x00\x12\x03\x00",
     );
     full();
@@ -320,8 +444,12 @@ fn main() {
     let mut room = [170u8; 20];
     let mut short = [170u8; 19];
     let mut shorter = [170u8; 17];
-    save(b"just room", 3, 0, &mut room);
-    save(b"one byte short", 3, 0, &mut short);
-    save(b"out of shape, and one byte short", 2, 0, &mut shorter);
-    save(b"old edges unsound", 3, 1, &mut room);
+    save(b"just room", 3, 0, b"", &mut room);
+    save(b"one byte short", 3, 0, b"", &mut short);
+    save(b"out of shape, and one byte short", 2, 0, b"", &mut shorter);
+    save(b"old edges unsound", 3, 1, b"", &mut room);
+    pairs();
+    longest();
+    unsound_lists();
+    saved_with_lists();
 }

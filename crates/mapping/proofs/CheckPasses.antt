@@ -1,4 +1,4 @@
--- The check passes exactly on common subgraphs of two sound graphs, and then answers with the mapping's size.
+-- The check passes exactly on common subgraphs of a sound problem, and then answers with the mapping's size.
 use mathlib.Core.Path.{_≡_, refl}
 use mathlib.Core.Bool.{Bool, true, false, cond, true≢false}
 use mathlib.Core.List.{List}
@@ -43,13 +43,13 @@ module _ (P : Problem) (l : List ℕ) where
           let first = firstBelow-some (length l) (rowFault P l) (accepted n) (rw e at c) in absurd (row-refuses P l (first .0) n (first .2))
       go false o q c e = absurd (true≢false (cc))
 
-  -- A common subgraph of two sound graphs passes, and the answer is its size.
+  -- A common subgraph of a sound problem passes, and the answer is its size.
   pub common-passes : SoundProblem P → Common P l → checkOutcome P l ≡ accepted (size l)
   unfolding checkOutcome listOutcome
   common-passes s c =
       simp (problem-passes P s, eq-eqb (length l) (P .old .order) (c .entries), pairwise-clear (common-pairwise P l c))
 
-  -- A mapping that passes is a common subgraph of two sound graphs, and the answer is its size.
+  -- A mapping that passes is a common subgraph of a sound problem, and the answer is its size.
   pub passes-only-common : (n : ℕ) → checkOutcome P l ≡ accepted n → SoundProblem P × Common P l × (n ≡ size l)
   unfolding checkOutcome
   passes-only-common n e = go (problemAnswer P) refl e
@@ -64,6 +64,6 @@ module _ (P : Problem) (l : List ℕ) where
       go (answer.refused m) q e = absurd (true≢false (cc))
       go (answer.refusedAt m at) q e = absurd (true≢false (cc))
 
-  -- Between two sound graphs a mapping that passes is a common subgraph, and the answer is its size.
+  -- In a sound problem a mapping that passes is a common subgraph, and the answer is its size.
   pub passes-common : SoundProblem P → (n : ℕ) → checkOutcome P l ≡ accepted n → Common P l × (n ≡ size l)
   passes-common s n e = let r = passes-only-common n e in (r .1, r .2)

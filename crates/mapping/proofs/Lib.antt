@@ -6,3 +6,4 @@ pub mod Pairwise
 pub mod Removal
 pub mod RowFault
 pub mod Size
+pub mod LentRows

@@ -32,7 +32,7 @@ common-pairwise P l c = record { entries = c .entries; alone = alone; together =
         subst₂ (λ (a b : ℕ). consistent P a (getD l a 0) b (getD l b 0) ≡ true) (i .2) (j .2)
         (pair (i .0) (j .0) (i .1) (j .1) (omega arith))
 
--- Between two sound graphs, a mapping whose mapped rows are allowed and consistent is a common subgraph.
+-- In a sound problem, a mapping whose mapped rows are allowed and consistent is a common subgraph.
 pub pairwise-common : (P : Problem) (l : List ℕ) → SoundProblem P → Pairwise P l → Common P l
 pairwise-common P l s p =
     record {

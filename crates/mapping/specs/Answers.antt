@@ -4,7 +4,7 @@ use Rattle.answers.specs.Answer.{Answer}
 use Rattle.answers.specs.Answer as answer
 use Rattle.problem.specs.Answers.{problemFlawNumber}
 use Rattle.mapping.specs.declared.MappingAnswer.{MappingAnswer}
-use Rattle.mapping.specs.declared.MappingAnswer.the-variants.{Common, Flawed, Length, NoVertex, SameImage, LabelsDiffer, EdgesDiffer}
+use Rattle.mapping.specs.declared.MappingAnswer.the-variants.{Common, Flawed, Length, NoVertex, SameImage, LabelsDisagree, EdgesDiffer}
 use Rattle.mapping.specs.declared.MappingsAnswer.{MappingsAnswer}
 use Rattle.mapping.specs.declared.MappingsAnswer.the-variants as mappings
 
@@ -34,7 +34,7 @@ mappingOutcome (Flawed f) = refused (problemFlawNumber f)
 mappingOutcome Length = refused 18
 mappingOutcome (NoVertex r) = refusedRow 19 (r .0)
 mappingOutcome (SameImage r e) = refusedRows 20 (r .0) (e .0)
-mappingOutcome (LabelsDiffer r) = refusedRow 21 (r .0)
+mappingOutcome (LabelsDisagree r) = refusedRow 21 (r .0)
 mappingOutcome (EdgesDiffer r e) = refusedRows 22 (r .0) (e .0)
 
 abbrev pub mappingsOutcome : MappingsAnswer → Outcomes

@@ -1,5 +1,6 @@
--- The check of a mapping, by the row "Partner list" of 01's refusals: 18, then row by row 19, 21, and against each earlier mapped row, rising, 20 and 22.
-use mathlib.Core.Bool.{cond}
+-- The check of a mapping, by the row "Partner list" of 01's refusals: 18, then row by row 19, 21, and against each earlier mapped row, rising, 20 and 22;
+-- 02, U1, puts 23 and 24 before them.
+use mathlib.Core.Bool.{Bool, cond}
 use mathlib.Core.List.{List}
 use mathlib.Core.Option.{Option, none, some}
 use mathlib.Core.Path.{_≡_}
@@ -30,29 +31,34 @@ clash P l v u =
     (cond (eqb (getD l u 0) (getD l v 0)) (some (refusedRows 20 v u))
     (cond (compareEdges P u v (getD l u 0) (getD l v 0)) none (some (refusedRows 22 v u))))
 
-unfoldable pub rowFault : Problem → List ℕ → ℕ → Option Outcome
-rowFault P l v =
+-- one row: its entry is a new vertex, of this many, the labels agree by this test, and then what is found against earlier rows
+abbrev pub rowBy : ℕ → (ℕ → Bool) → Option Outcome → List ℕ → ℕ → Option Outcome
+rowBy order agrees earlier l v =
     cond (eqb (getD l v 0) unmapped) none
-    (cond (ltb (getD l v 0) (P .new .order))
-    (cond (compareVertices P v (getD l v 0)) (firstBelow v (clash P l v)) (some (refusedRow 21 v)))
-    (some (refusedRow 19 v)))
+    (cond (ltb (getD l v 0) order) (cond (agrees (getD l v 0)) earlier (some (refusedRow 21 v))) (some (refusedRow 19 v)))
+
+unfoldable pub rowFault : Problem → List ℕ → ℕ → Option Outcome
+rowFault P l v = rowBy (P .new .order) (compareVertices P v) (firstBelow v (clash P l v)) l v
 
 abbrev pub onFault : Option Outcome → Outcome → Outcome
 onFault (some fault) o = fault
 onFault none o = o
 
-unfoldable pub listOutcome : Problem → List ℕ → Outcome
-listOutcome P l =
-    cond (eqb (length l) (P .old .order)) (onFault (firstBelow (length l) (rowFault P l)) (accepted (size l))) (refused 18)
+-- a mapping of this many old vertices, row by row
+abbrev pub listBy : ℕ → (ℕ → Option Outcome) → List ℕ → Outcome
+listBy order row l = cond (eqb (length l) order) (onFault (firstBelow (length l) row) (accepted (size l))) (refused 18)
 
--- what follows on two sound graphs, or their refusal; `refusedAt` is no answer about two graphs
+unfoldable pub listOutcome : Problem → List ℕ → Outcome
+listOutcome P l = listBy (P .old .order) (rowFault P l) l
+
+-- what follows on two sound graphs and a sound list, or their refusal; `refusedAt` is no answer about two graphs
 abbrev pub onProblem : Answer → Outcome → Outcome
 onProblem answer o = onAnswer o accepted refused refusedRow answer
 
--- all of it: 10, 11 and 12 come first
+-- all of it: 10, 11, 12, 23 and 24 come first
 unfoldable pub checkOutcome : Problem → List ℕ → Outcome
 checkOutcome P l = onProblem (problemAnswer P) (listOutcome P l)
 
--- the same of two lists: 10, 11 and 12 come first, once for both
+-- the same of two mappings: 10, 11, 12, 23 and 24 come first, once for both
 unfoldable pub bothOutcomes : Problem → List ℕ → List ℕ → Outcomes
 bothOutcomes P l m = whenPassed (problemAnswer P) (checked (listOutcome P l) (listOutcome P m)) flawed

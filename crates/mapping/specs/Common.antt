@@ -32,7 +32,7 @@ abbrev pub y : List ℕ → ℕ → ℕ
 y l i = getD l (x l i) 0
 
 -- "The list is good when no new part comes twice, paired parts have equal kinds, and any two paired old parts have the same link value as
--- their partners. This is formula (1) of source document 000 for two different parts."
+-- their partners. This is formula (1) of source document 000 for two different parts." Since 02, U1, kinds need only agree.
 pub record Common (P : Problem) (l : List ℕ) : Type 0 where
   -- one entry for each old vertex
   pub entries : length l ≡ P .old .order

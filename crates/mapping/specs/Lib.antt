@@ -2,3 +2,4 @@ pub mod Common
 pub mod Order
 pub mod Answers
 pub mod Check
+pub mod LentRows

@@ -29,7 +29,7 @@ pub enum MappingAnswer {
     Length,
     NoVertex(OldVertex),
     SameImage(OldVertex, OldVertex),
-    LabelsDiffer(OldVertex),
+    LabelsDisagree(OldVertex),
     EdgesDiffer(OldVertex, OldVertex),
 }
 
@@ -49,7 +49,7 @@ pub fn mapping_number(answer: MappingAnswer) -> u8
         MappingAnswer::Length => 18,
         MappingAnswer::NoVertex(_) => 19,
         MappingAnswer::SameImage(_, _) => 20,
-        MappingAnswer::LabelsDiffer(_) => 21,
+        MappingAnswer::LabelsDisagree(_) => 21,
         MappingAnswer::EdgesDiffer(_, _) => 22,
     }
 }
@@ -61,37 +61,45 @@ pub fn mapping_size(mapping: &[u8]) -> usize
     rows::size(mapping)
 }
 
-// Whether the mapping is a common subgraph of the two graphs.
+// Whether the mapping is a common subgraph of the two graphs, under the substitutes.
 pub fn check_mapping<'a>(
     orders: Orders,
     labels: Labels<'a>,
     edges: Edges<'a>,
+    substitutes: &[u8],
     mapping: &[u8],
 ) -> MappingAnswer
-    ensures { λ r. ⌜ mappingOutcome r ≡ checkOutcome (lent orders (labels .entry) (edges .entry)) (now (mapping .entry)) ⌝ }
+    ensures { λ r. ⌜ mappingOutcome r ≡ checkOutcome (lent orders (labels .entry) (edges .entry) (now (substitutes .entry))) (now (mapping .entry)) ⌝ }
 {
-    match problem::check_problem(orders, labels, edges) {
+    match problem::check_problem(orders, labels, edges, substitutes) {
         ProblemAnswer::Flawed(flaw) => MappingAnswer::Flawed(flaw),
-        ProblemAnswer::Sound => rows::check_list(orders, labels, edges, mapping),
+        ProblemAnswer::Sound => {
+            let agreeing = substitutes::agreeing(labels[0], labels[1], substitutes);
+            rows::check_list(orders, &agreeing, edges, mapping)
+        }
     }
 }
 
-// Whether each of two mappings is a common subgraph: the graphs are tested once for both.
+// Whether each of two mappings is a common subgraph: the graphs and the substitutes are tested once for both.
 pub fn check_mappings<'a>(
     orders: Orders,
     labels: Labels<'a>,
     edges: Edges<'a>,
+    substitutes: &[u8],
     first: &[u8],
     second: &[u8],
 ) -> MappingsAnswer
     ensures { λ r. ⌜ mappingsOutcome r
-        ≡ bothOutcomes (lent orders (labels .entry) (edges .entry)) (now (first .entry)) (now (second .entry)) ⌝ }
+        ≡ bothOutcomes (lent orders (labels .entry) (edges .entry) (now (substitutes .entry))) (now (first .entry)) (now (second .entry)) ⌝ }
 {
-    match problem::check_problem(orders, labels, edges) {
+    match problem::check_problem(orders, labels, edges, substitutes) {
         ProblemAnswer::Flawed(flaw) => MappingsAnswer::Flawed(flaw),
-        ProblemAnswer::Sound => MappingsAnswer::Checked(
-            rows::check_list(orders, labels, edges, first),
-            rows::check_list(orders, labels, edges, second),
-        ),
+        ProblemAnswer::Sound => {
+            let agreeing = substitutes::agreeing(labels[0], labels[1], substitutes);
+            MappingsAnswer::Checked(
+                rows::check_list(orders, &agreeing, edges, first),
+                rows::check_list(orders, &agreeing, edges, second),
+            )
+        }
     }
 }

@@ -6,18 +6,19 @@ use super::OldVertex;
 use super::UNMAPPED;
 use graph::MAX_ORDER;
 use problem::Edges;
-use problem::Labels;
 use problem::Orders;
 ghost use mathlib.Core.Path.{_≡_};
 ghost use mathlib.Core.List.{[]};
 ghost use Prim.Native.Nat.{_≤_, _<_};
 ghost use lib.ListN.{length, getD};
 ghost use Rattle.bounded.specs.First.{firstBelow};
-ghost use Rattle.problem.specs.Problem.{SoundProblem, compareVertices, compareEdges};
+ghost use Rattle.bitset.specs.Members.{member};
+ghost use Rattle.problem.specs.Problem.{compareEdges};
 ghost use Rattle.problem.specs.Lent.{lent, BothLong};
 ghost use Rattle.mapping.specs.Common.{size as sizeOf};
 ghost use Rattle.mapping.specs.Answers.{mappingOutcome};
-ghost use Rattle.mapping.specs.Check.{finding, EntriesBelow, clash as clashAt, rowFault, listOutcome};
+ghost use Rattle.mapping.specs.Check.{finding, EntriesBelow, clash as clashAt, listBy};
+ghost use Rattle.mapping.specs.LentRows.{lentRow};
 
 // What the check of one row, or of several, finds.
 pub enum Finding {
@@ -25,17 +26,14 @@ pub enum Finding {
     Fault(MappingAnswer),
 }
 
-// The contracts below name only the parts of the two graphs that a function reads.
+// The contracts below name only what a function reads: of the labels, the sets of vertices that agree with each row.
 
-pub fn compare_vertices<'a>(labels: Labels<'a>, v: OldVertex, w: NewVertex) -> bool
-    requires { ⌜ BothLong 64 labels × (v .0 < 64) × (w .0 < 64) ⌝ }
-    ensures { λ r. ⌜ r ≡ compareVertices (lent [] (labels .entry) []) (v .0) (w .0) ⌝ }
+pub fn compare_vertices(agreeing: &[u64; MAX_ORDER], v: OldVertex, w: NewVertex) -> bool
+    requires { ⌜ v .0 < 64 ⌝ }
+    ensures { λ r. ⌜ r ≡ member (getD (now (agreeing .entry)) (v .0) 0) (w .0) ⌝ }
 {
-    let old = labels[0];
-    let new = labels[1];
     let row = v.0;
-    let image = w.0;
-    old[row] == new[image]
+    bitset::has(agreeing[row], w.0)
 }
 
 // The edges of v and v2 in the old graph, and of w and w2 in the new one.
@@ -47,7 +45,7 @@ pub fn compare_edges<'a>(
     w2: NewVertex,
 ) -> bool
     requires { ⌜ BothLong 4096 edges × (v .0 < 64) × (v2 .0 < 64) × (w .0 < 64) × (w2 .0 < 64) ⌝ }
-    ensures { λ r. ⌜ r ≡ compareEdges (lent [] [] (edges .entry)) (v .0) (v2 .0) (w .0) (w2 .0) ⌝ }
+    ensures { λ r. ⌜ r ≡ compareEdges (lent [] [] (edges .entry) []) (v .0) (v2 .0) (w .0) (w2 .0) ⌝ }
 {
     let old = edges[0];
     let new = edges[1];
@@ -62,7 +60,7 @@ pub fn compare_edges<'a>(
 pub fn clash<'a>(edges: Edges<'a>, mapping: &[u8], v: OldVertex, u: OldVertex) -> Finding
     requires { ⌜ BothLong 4096 edges × (length (now mapping) ≤ 64) × (v .0 < length (now mapping)) × (u .0 < v .0) ⌝ }
     requires { ⌜ (getD (now mapping) (v .0) 0 < 64) × EntriesBelow (now mapping) (v .0) ⌝ }
-    ensures { λ r. ⌜ finding r ≡ clashAt (lent [] [] (edges .entry)) (now (mapping .entry)) (v .0) (u .0) ⌝ }
+    ensures { λ r. ⌜ finding r ≡ clashAt (lent [] [] (edges .entry) []) (now (mapping .entry)) (v .0) (u .0) ⌝ }
 {
     let row = v.0;
     let earlier = u.0;
@@ -86,7 +84,7 @@ pub fn clash<'a>(edges: Edges<'a>, mapping: &[u8], v: OldVertex, u: OldVertex) -
 pub fn first_clash<'a>(edges: Edges<'a>, mapping: &[u8], v: OldVertex) -> Finding
     requires { ⌜ BothLong 4096 edges × (length (now mapping) ≤ 64) × (v .0 < length (now mapping)) ⌝ }
     requires { ⌜ (getD (now mapping) (v .0) 0 < 64) × EntriesBelow (now mapping) (v .0) ⌝ }
-    ensures { λ r. ⌜ finding r ≡ firstBelow (v .0) (clashAt (lent [] [] (edges .entry)) (now (mapping .entry)) (v .0)) ⌝ }
+    ensures { λ r. ⌜ finding r ≡ firstBelow (v .0) (clashAt (lent [] [] (edges .entry) []) (now (mapping .entry)) (v .0)) ⌝ }
 {
     let row = v.0;
     let mut u = 0;
@@ -106,14 +104,14 @@ pub fn first_clash<'a>(edges: Edges<'a>, mapping: &[u8], v: OldVertex) -> Findin
 // One row: its own entry, then the earlier rows. The rows before it are clear.
 pub fn row_fault<'a>(
     orders: Orders,
-    labels: Labels<'a>,
+    agreeing: &[u64; MAX_ORDER],
     edges: Edges<'a>,
     mapping: &[u8],
     v: OldVertex,
 ) -> Finding
-    requires { ⌜ BothLong 64 labels × BothLong 4096 edges × (getD orders 1 0 ≤ 64) ⌝ }
+    requires { ⌜ BothLong 4096 edges × (getD orders 1 0 ≤ 64) ⌝ }
     requires { ⌜ (length (now mapping) ≤ 64) × (v .0 < length (now mapping)) × EntriesBelow (now mapping) (v .0) ⌝ }
-    ensures { λ r. ⌜ finding r ≡ rowFault (lent orders (labels .entry) (edges .entry)) (now (mapping .entry)) (v .0) ⌝ }
+    ensures { λ r. ⌜ finding r ≡ lentRow orders (now (agreeing .entry)) (edges .entry) (now (mapping .entry)) (v .0) ⌝ }
 {
     let row = v.0;
     let image = mapping[row];
@@ -124,8 +122,8 @@ pub fn row_fault<'a>(
     if orders[1] <= w {
         return Finding::Fault(MappingAnswer::NoVertex(v));
     }
-    if !compare_vertices(labels, v, NewVertex(w)) {
-        return Finding::Fault(MappingAnswer::LabelsDiffer(v));
+    if !compare_vertices(agreeing, v, NewVertex(w)) {
+        return Finding::Fault(MappingAnswer::LabelsDisagree(v));
     }
     first_clash(edges, mapping, v)
 }
@@ -133,16 +131,17 @@ pub fn row_fault<'a>(
 // All rows, rising.
 pub fn first_fault<'a>(
     orders: Orders,
-    labels: Labels<'a>,
+    agreeing: &[u64; MAX_ORDER],
     edges: Edges<'a>,
     mapping: &[u8],
 ) -> Finding
-    requires { ⌜ BothLong 64 labels × BothLong 4096 edges × (getD orders 1 0 ≤ 64) × (length (now mapping) ≤ 64) ⌝ }
-    ensures { λ r. ⌜ finding r ≡ firstBelow (length (now (mapping .entry))) (rowFault (lent orders (labels .entry) (edges .entry)) (now (mapping .entry))) ⌝ }
+    requires { ⌜ BothLong 4096 edges × (getD orders 1 0 ≤ 64) × (length (now mapping) ≤ 64) ⌝ }
+    ensures { λ r. ⌜ finding r ≡ firstBelow (length (now (mapping .entry)))
+        (lentRow orders (now (agreeing .entry)) (edges .entry) (now (mapping .entry))) ⌝ }
 {
     let mut v = 0;
     while v < mapping.len() {
-        match row_fault(orders, labels, edges, mapping, OldVertex(v)) {
+        match row_fault(orders, agreeing, edges, mapping, OldVertex(v)) {
             Finding::Fault(answer) => {
                 return Finding::Fault(answer);
             }
@@ -169,20 +168,21 @@ pub fn size(mapping: &[u8]) -> usize
     count
 }
 
-// A list against two sound graphs: its length, then its rows.
+// A mapping: its length, then its rows.
 pub fn check_list<'a>(
     orders: Orders,
-    labels: Labels<'a>,
+    agreeing: &[u64; MAX_ORDER],
     edges: Edges<'a>,
     mapping: &[u8],
 ) -> MappingAnswer
-    requires { ⌜ SoundProblem (lent orders labels edges) ⌝ }
-    ensures { λ r. ⌜ mappingOutcome r ≡ listOutcome (lent orders (labels .entry) (edges .entry)) (now (mapping .entry)) ⌝ }
+    requires { ⌜ BothLong 4096 edges × (getD orders 0 0 ≤ 64) × (getD orders 1 0 ≤ 64) ⌝ }
+    ensures { λ r. ⌜ mappingOutcome r ≡ listBy (getD orders 0 0)
+        (lentRow orders (now (agreeing .entry)) (edges .entry) (now (mapping .entry))) (now (mapping .entry)) ⌝ }
 {
     if mapping.len() != orders[0] {
         return MappingAnswer::Length;
     }
-    match first_fault(orders, labels, edges, mapping) {
+    match first_fault(orders, agreeing, edges, mapping) {
         Finding::Fault(answer) => answer,
         Finding::Clear => MappingAnswer::Common(size(mapping)),
     }

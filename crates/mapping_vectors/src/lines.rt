@@ -42,7 +42,7 @@ fn write_answer(answer: MappingAnswer) {
         MappingAnswer::SameImage(row, earlier) => {
             refused_rows(answer, row, earlier);
         }
-        MappingAnswer::LabelsDiffer(row) => {
+        MappingAnswer::LabelsDisagree(row) => {
             refused_row(answer, row);
         }
         MappingAnswer::EdgesDiffer(row, earlier) => {

@@ -1,12 +1,21 @@
 // Runs `mapping::check_mapping` on small cases and writes what each says. The expected output was worked out by hand from document 01,
-// "Good partner lists" and "Refusals by place of checking".
+// "Good partner lists" and "Refusals by place of checking", and from document 02, U1, where a list of substitutes is lent.
 
 mod lines;
 mod tables;
 
 use tables::Harm;
 
-fn case(name: &[u8], old: &[u8], old_harm: Harm, new: &[u8], new_harm: Harm, list: &[u8]) {
+// `list` is checked on the two graphs, each harmed in at most one way, under the lent pairs of `substitutes`.
+fn case(
+    name: &[u8],
+    old: &[u8],
+    old_harm: Harm,
+    new: &[u8],
+    new_harm: Harm,
+    substitutes: &[u8],
+    list: &[u8],
+) {
     let mut old_labels = [0u8; 64];
     let mut old_edges = [0u8; 4096];
     let mut new_labels = [0u8; 64];
@@ -24,6 +33,7 @@ fn case(name: &[u8], old: &[u8], old_harm: Harm, new: &[u8], new_harm: Harm, lis
             &new_labels[..new_labels_lent],
         ],
         [&old_edges[..old_edges_lent], &new_edges[..new_edges_lent]],
+        substitutes,
         list,
     );
     lines::write_line(name, answer);
@@ -37,6 +47,7 @@ fn on_p(name: &[u8], old_harm: Harm, new_harm: Harm, list: &[u8]) {
         old_harm,
         b"\x01\x09\x01\x07\x02\x00\x01\x01\x00",
         new_harm,
+        b"",
         list,
     );
 }
@@ -49,6 +60,7 @@ fn on_q(name: &[u8], list: &[u8]) {
         Harm::Sound,
         b"\x01\x07\x01\x07\x01\x07\x01\x07\x02\x00\x01\x01\x02\x01\x02\x02\x00",
         Harm::Sound,
+        b"",
         list,
     );
 }
@@ -57,7 +69,20 @@ fn on_q(name: &[u8], list: &[u8]) {
 fn on_full(name: &[u8], list: &[u8]) {
     let mut bytes = [1u8; 129];
     bytes[128] = 0;
-    case(name, &bytes, Harm::Sound, &bytes, Harm::Sound, list);
+    case(name, &bytes, Harm::Sound, &bytes, Harm::Sound, b"", list);
+}
+
+// One part of kind 7, and one of kind 9.
+fn on_seven_and_nine(name: &[u8], substitutes: &[u8], list: &[u8]) {
+    case(
+        name,
+        b"\x01\x07\x00",
+        Harm::Sound,
+        b"\x01\x09\x00",
+        Harm::Sound,
+        substitutes,
+        list,
+    );
 }
 
 fn old_harmed() {
@@ -226,6 +251,7 @@ fn empty_graphs() {
         b"\x00",
         Harm::Sound,
         b"",
+        b"",
     );
     case(
         b"both empty, one row",
@@ -233,6 +259,7 @@ fn empty_graphs() {
         Harm::Sound,
         b"\x00",
         Harm::Sound,
+        b"",
         b"\xff",
     );
     case(
@@ -242,6 +269,7 @@ fn empty_graphs() {
         b"\x01\x07\x00",
         Harm::Sound,
         b"",
+        b"",
     );
     case(
         b"new empty",
@@ -249,6 +277,7 @@ fn empty_graphs() {
         Harm::Sound,
         b"\x00",
         Harm::Sound,
+        b"",
         b"\xff",
     );
     case(
@@ -257,6 +286,7 @@ fn empty_graphs() {
         Harm::Sound,
         b"\x00",
         Harm::Sound,
+        b"",
         b"\x00",
     );
 }
@@ -276,6 +306,68 @@ fn full_graphs() {
     );
 }
 
+fn pairs_read() {
+    on_seven_and_nine(b"substitutes 7 9", b"\x07\x09", b"\x00");
+    on_seven_and_nine(b"substitutes 9 7, directed", b"\x09\x07", b"\x00");
+    on_seven_and_nine(
+        b"substitutes 7 8 8 9, no chain",
+        b"\x07\x08\x08\x09",
+        b"\x00",
+    );
+    on_seven_and_nine(b"no substitutes", b"", b"\x00");
+    on_seven_and_nine(
+        b"the last pair of several",
+        b"\x07\x08\x09\x07\x08\x09\x07\x09",
+        b"\x00",
+    );
+    case(
+        b"equal kinds, substitutes of others",
+        b"\x01\x07\x00",
+        Harm::Sound,
+        b"\x01\x07\x00",
+        Harm::Sound,
+        b"\x08\x09",
+        b"\x00",
+    );
+    case(
+        b"links have no substitutes",
+        b"\x01\x07\x01\x07\x02\x00\x01\x07\x00",
+        Harm::Sound,
+        b"\x01\x09\x01\x09\x02\x00\x01\x09\x00",
+        Harm::Sound,
+        b"\x07\x09",
+        b"\x00\x01",
+    );
+}
+
+fn pairs_refused() {
+    on_seven_and_nine(b"one byte of substitutes", b"\x07", b"\x00");
+    on_seven_and_nine(b"substitutes 7 0", b"\x07\x00", b"\x00");
+    on_seven_and_nine(b"substitutes 0 7", b"\x00\x07", b"\x00");
+    on_seven_and_nine(
+        b"one byte of substitutes, list too long",
+        b"\x07",
+        b"\x00\x00",
+    );
+    case(
+        b"old kind 0, one byte of substitutes",
+        b"\x01\x07\x00",
+        Harm::NoLabel,
+        b"\x01\x09\x00",
+        Harm::Sound,
+        b"\x07",
+        b"\x00",
+    );
+}
+
+fn many_pairs() {
+    let mut bytes = [0u8; 514];
+    tables::fill_pairs(&mut bytes);
+    on_seven_and_nine(b"512 bytes of substitutes", &bytes[..512], b"\x00");
+    bytes[513] = 0;
+    on_seven_and_nine(b"514 bytes of substitutes with a 0", &bytes, b"\x00");
+}
+
 fn main() {
     old_harmed();
     new_harmed();
@@ -288,4 +380,7 @@ fn main() {
     good();
     empty_graphs();
     full_graphs();
+    pairs_read();
+    pairs_refused();
+    many_pairs();
 }

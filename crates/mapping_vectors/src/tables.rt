@@ -1,4 +1,4 @@
-// The tables that a case lends: a graph read from its bytes, and then harmed in at most one way.
+// What a case lends: the tables of a graph read from its bytes, and then harmed in at most one way; and a long list of substitutes.
 
 use graph_reader::ReadAnswer;
 use libc::STDOUT_FILENO;
@@ -6,7 +6,7 @@ ghost use mathlib.Core.Path.{_≡_};
 ghost use Prim.Native.Nat.{_≤_};
 ghost use lib.ListN.{length};
 
-// What is wrong with the tables. The graphs here that are harmed have fewer than 64 vertices.
+// What is wrong with the tables. The graphs here that are harmed have fewer than 64 vertices, and at least one.
 pub enum Harm {
     Sound,
     // the order is 65
@@ -17,6 +17,8 @@ pub enum Harm {
     ShortEdges,
     // 63, which is no vertex, has a label
     Label,
+    // 0, which is a vertex, has none
+    NoLabel,
     // 63 has an edge with itself
     Edge,
 }
@@ -50,6 +52,10 @@ pub fn fill(bytes: &[u8], harm: Harm, labels: &mut [u8], edges: &mut [u8]) -> us
             labels[63] = 9;
             order
         }
+        Harm::NoLabel => {
+            labels[0] = 0;
+            order
+        }
         Harm::Edge => {
             edges[4095] = 1;
             order
@@ -72,5 +78,17 @@ pub fn edges_lent(harm: Harm) -> usize
         4095
     } else {
         4096
+    }
+}
+
+// 257 times the pair of 7 and 9.
+pub fn fill_pairs(bytes: &mut [u8])
+    requires { ⌜ length (now bytes) ≡ 514 ⌝ }
+{
+    let mut k = 0;
+    while k < 257 {
+        bytes[2 * k] = 7;
+        bytes[2 * k + 1] = 9;
+        k += 1;
     }
 }

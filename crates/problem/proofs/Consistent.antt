@@ -4,7 +4,8 @@ use mathlib.Core.Logic.{_≢_}
 use mathlib.Core.Bool.{true, not, and-eq-true-iff}
 use Prim.Native.Nat.{ℕ, _<_}
 use lib.Dec.{ltb, eqb}
-use borrow.Author.Tests.{lt-ltb, ltb-true, ne-eqb, eqb-false, not-true}
+use borrow.Author.Tests.{lt-ltb, ltb-true, ne-eqb, eqb-true, eqb-false, not-true}
+use Rattle.graph.specs.Graph.{edge}
 use Rattle.problem.specs.Problem.{Problem, SoundProblem, compareVertices, compareEdges, allowed, consistent}
 
 module _ (P : Problem) where
@@ -18,6 +19,10 @@ module _ (P : Problem) where
   pub facts-allowed : (v w : ℕ) → w < P .new .order → compareVertices P v w ≡ true → allowed P v w ≡ true
   unfolding allowed
   facts-allowed v w h e = rw (lt-ltb w (P .new .order) h) e
+
+  -- "link kinds must still be equal": no list makes edges agree.
+  pub edges-equal : (v v′ w w′ : ℕ) → compareEdges P v v′ w w′ ≡ true → edge (P .old) v v′ ≡ edge (P .new) w w′
+  edges-equal v v′ w w′ e = eqb-true _ _ e
 
   -- Two mapped rows may stand together only where their partners are two and the edges agree.
   pub consistent-facts : (v w v′ w′ : ℕ) → consistent P v w v′ w′ ≡ true → (w ≢ w′) × (compareEdges P v v′ w w′ ≡ true)

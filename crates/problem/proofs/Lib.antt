@@ -1,2 +1,3 @@
 pub mod Consistent
 pub mod ProblemPasses
+pub mod VertexSets

@@ -1,4 +1,4 @@
--- What each answer about two graphs says in 01's terms (01, "Refusals by place of checking").
+-- What each answer about a problem says in the documents' terms (01, "Refusals by place of checking"; 02, U1).
 use Prim.Native.Nat.{ℕ}
 use Rattle.answers.specs.Answer.{Answer, passed, refused}
 use Rattle.problem.specs.declared.ProblemFlaw.{ProblemFlaw}
@@ -10,6 +10,8 @@ abbrev pub problemFlawNumber : ProblemFlaw → ℕ
 problemFlawNumber flaw.Tables = 10
 problemFlawNumber flaw.Labels = 11
 problemFlawNumber flaw.Edges = 12
+problemFlawNumber flaw.SubstitutesLength = 23
+problemFlawNumber flaw.SubstitutesLabels = 24
 
 abbrev pub problemAnswerOf : ProblemAnswer → Answer
 problemAnswerOf problem.Sound = passed

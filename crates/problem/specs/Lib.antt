@@ -1,3 +1,4 @@
 pub mod Problem
 pub mod Lent
+pub mod VertexSets
 pub mod Answers

@@ -1,12 +1,16 @@
-// Two graphs to be compared: three arrays, of their orders, label tables and edge tables, each with the old graph's at 0 and the new graph's at 1.
+// Two graphs to be compared: three arrays, of their orders, label tables and edge tables, each with the old graph's at 0 and the new graph's at 1; and a list
+// of substitutes, pairs of an old and a new label that agree beside equal ones.
 
 use graph::Flaw;
 use graph::Label;
 use graph::Soundness;
+use substitutes::SubstitutesAnswer;
 ghost use mathlib.Core.Path.{_≡_};
+ghost use mathlib.Core.List.{[]};
 ghost use Prim.Native.Nat.{_<_};
 ghost use Rattle.graph.specs.Answers.{flawNumber};
 ghost use Rattle.graph.specs.Soundness.{soundness};
+ghost use Rattle.substitutes.specs.Soundness.{substitutesAnswer};
 ghost use Rattle.problem.specs.Problem.{bothFit, problemAnswer};
 ghost use Rattle.problem.specs.Lent.{graphAt, lent};
 ghost use Rattle.problem.specs.Answers.{problemFlawNumber, problemAnswerOf};
@@ -17,11 +21,13 @@ pub type Labels<'a> = [&'a [Label]; 2];
 
 pub type Edges<'a> = [&'a [u8]; 2];
 
-// Why what is lent is no problem of two sound graphs.
+// Why what is lent is no problem of two sound graphs and a sound list.
 pub enum ProblemFlaw {
     Tables,
     Labels,
     Edges,
+    SubstitutesLength,
+    SubstitutesLabels,
 }
 
 // The answer of `check_problem`.
@@ -38,6 +44,8 @@ pub fn problem_flaw_number(flaw: ProblemFlaw) -> u8
         ProblemFlaw::Tables => 10,
         ProblemFlaw::Labels => 11,
         ProblemFlaw::Edges => 12,
+        ProblemFlaw::SubstitutesLength => 23,
+        ProblemFlaw::SubstitutesLabels => 24,
     }
 }
 
@@ -54,7 +62,7 @@ fn flawed(flaw: Flaw) -> ProblemFlaw
 
 // Whether the tables of both graphs have their lengths, and both orders are at most 64.
 fn both_fit<'a>(orders: Orders, labels: Labels<'a>, edges: Edges<'a>) -> bool
-    ensures { λ r. ⌜ r ≡ bothFit (lent orders (labels .entry) (edges .entry)) ⌝ }
+    ensures { λ r. ⌜ r ≡ bothFit (lent orders (labels .entry) (edges .entry) []) ⌝ }
 {
     if !graph::tables_fit(orders[0], labels[0], edges[0]) {
         return false;
@@ -73,15 +81,36 @@ fn check_at<'a>(orders: Orders, labels: Labels<'a>, edges: Edges<'a>, which: usi
     }
 }
 
-// Whether both sets of tables hold sound graphs; the lengths and orders of both come first, then the old graph.
-pub fn check_problem<'a>(orders: Orders, labels: Labels<'a>, edges: Edges<'a>) -> ProblemAnswer
-    ensures { λ r. ⌜ problemAnswerOf r ≡ problemAnswer (lent orders (labels .entry) (edges .entry)) ⌝ }
+fn judge_substitutes(substitutes: &[u8]) -> ProblemAnswer
+    ensures { λ r. ⌜ problemAnswerOf r ≡ substitutesAnswer (now (substitutes .entry)) ⌝ }
+{
+    match substitutes::check_substitutes(substitutes) {
+        SubstitutesAnswer::Sound => ProblemAnswer::Sound,
+        SubstitutesAnswer::Length => ProblemAnswer::Flawed(ProblemFlaw::SubstitutesLength),
+        SubstitutesAnswer::Labels => ProblemAnswer::Flawed(ProblemFlaw::SubstitutesLabels),
+    }
+}
+
+// Whether both sets of tables hold sound graphs and the list is sound; the lengths and orders of both come first, then the old graph, and the list last.
+pub fn check_problem<'a>(
+    orders: Orders,
+    labels: Labels<'a>,
+    edges: Edges<'a>,
+    substitutes: &[u8],
+) -> ProblemAnswer
+    ensures { λ r. ⌜ problemAnswerOf r ≡ problemAnswer (lent orders (labels .entry) (edges .entry) (now (substitutes .entry))) ⌝ }
 {
     if !both_fit(orders, labels, edges) {
         return ProblemAnswer::Flawed(ProblemFlaw::Tables);
     }
     match check_at(orders, labels, edges, 0) {
+        ProblemAnswer::Flawed(flaw) => {
+            return ProblemAnswer::Flawed(flaw);
+        }
+        ProblemAnswer::Sound => {}
+    }
+    match check_at(orders, labels, edges, 1) {
         ProblemAnswer::Flawed(flaw) => ProblemAnswer::Flawed(flaw),
-        ProblemAnswer::Sound => check_at(orders, labels, edges, 1),
+        ProblemAnswer::Sound => judge_substitutes(substitutes),
     }
 }

@@ -12,6 +12,7 @@ use Rattle.graph_reader.specs.Reading.{Reading, readGraph}
 use Rattle.graph_reader.specs.declared.ReadAnswer.{ReadAnswer}
 use Rattle.graph_reader.proofs.ReadSound.{reading-sound}
 use Rattle.graph_reader.proofs.RefusalNumbers.{reading-valued}
+use Rattle.substitutes.proofs.SoundList.{none-sound}
 use Rattle.problem.specs.Problem.{Problem, problem, SoundProblem}
 use Rattle.problem_reader.specs.declared.ProblemRead.{ProblemRead}
 use Rattle.problem_reader.specs.declared.ProblemRead.the-variants.{Orders, Refused}
@@ -77,8 +78,12 @@ module _ (old new : List ℕ) where
   problem-sound small small′ =
       both-cases ReadsSound (readGraph old) (readGraph new)
       (reading-valued (replicate 64 0) (replicate 4096 0) old) (reading-valued (replicate 64 0) (replicate 4096 0) new)
-      (λ n m e q P p. subst SoundProblem (cc) (record {
+      (λ n m e q P p.
+      let o = readGraph old in
+      let w = readGraph new in
+      subst SoundProblem {x = problem (graph n (o .labels) (o .edges)) (graph m (w .labels) (w .edges))} (cc) (record {
         old-sound = reading-sound (replicate 64 0) (replicate 4096 0) old small n e;
         new-sound = reading-sound (replicate 64 0) (replicate 4096 0) new small′ m q;
+        substitutes-sound = none-sound;
       }))
       (λ a h P p. let z : _≡_ {A = ℕ} 0 1 = cc in absurd (omega arith))

@@ -10,12 +10,13 @@ use native.Mathlib.Omega.{arith}
 use lib.Dec.{lit<}
 use lib.ListN.{length, replicate, length-replicate}
 use Rattle.little_endian.specs.LittleEndian.{fromLittle}
-use Rattle.bounded.specs.Below.{allBelow, sumBelow, runBelow}
+use Rattle.bounded.specs.Below.{allBelow, someBelow, sumBelow, runBelow}
 use Rattle.answers.specs.Answer.{accepted}
 use Rattle.graph.specs.Graph.{Graph, graph}
 use Rattle.graph_reader.specs.Reading.{reading, readFrom, judge, readGraph}
 use Rattle.problem_reader.specs.ProblemReading.{readingProblem, readProblem}
-use Rattle.graph_reader.proofs.ReadSound.{reading-sound}
+use Rattle.problem_reader.proofs.ReadProblem.{problem-sound}
+use Rattle.substitutes.specs.Substitutes.{listed, agree}
 use Rattle.problem.specs.Problem.{Problem, SoundProblem, problem, allowed, consistent}
 use Rattle.mapping.specs.Common.{mappedFrom}
 use Rattle.search_tree.specs.Rules.{rulesOf}
@@ -52,10 +53,8 @@ module _ (old new input : List ℕ) (n m : ℕ)
   P = problem (read n old) (read m new)
 
   sound : SoundProblem P
-  sound = record {
-    old-sound = reading-sound (replicate 64 0) (replicate 4096 0) old (bytes-small old old-bytes) n old-read;
-    new-sound = reading-sound (replicate 64 0) (replicate 4096 0) new (bytes-small new new-bytes) m new-read;
-  }
+  unfolding readProblem readingProblem
+  sound = problem-sound old new (bytes-small old old-bytes) (bytes-small new new-bytes) P (rw (old-read, new-read))
 
   -- the lines of the walk after so many visits
   abbrev walked : List ℕ
@@ -113,7 +112,7 @@ pub program-example :
     × Prints oldBytes missing (given 1 100) "refused 5\n"
     -- the old graph is read first
     × Prints [] missing (given 1 100) "refused 1\n"
-unfolding reading readFrom judge bytes fromLittle allBelow sumBelow runBelow allowed consistent mappedFrom candidate candidates upperBound choices children choicesAfter laterSiblings openNodes visitPath visit after topBound ceiling checkpointOf digits keepLines removeLines isFree fitLines vertexLines acceptedText readProblem readingProblem refitText ascii
+unfolding reading readFrom judge bytes fromLittle allBelow someBelow sumBelow runBelow listed agree allowed consistent mappedFrom candidate candidates upperBound choices children choicesAfter laterSiblings openNodes visitPath visit after topBound ceiling checkpointOf digits keepLines removeLines isFree fitLines vertexLines acceptedText readProblem readingProblem refitText ascii
 program-example = (
   printed oldBytes newBytes (given 1 100) 3 2 refl refl refl refl refl (lit< tt),
   printed newBytes oldBytes (given 1 100) 2 3 refl refl refl refl refl (lit< tt),

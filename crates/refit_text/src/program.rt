@@ -9,6 +9,7 @@ use problem::Orders;
 use problem_reader::ProblemRead;
 use search::Searched;
 use search::WORDS;
+ghost use mathlib.Core.List.{[]};
 ghost use mathlib.Core.Path.{_≡_};
 ghost use lib.ListN.{getD};
 ghost use Rattle.problem.specs.Lent.{lent};
@@ -17,7 +18,7 @@ ghost use Rattle.text.specs.Put.{Put};
 ghost use Rattle.refit_text.specs.Report.{reportText};
 ghost use Rattle.refit_text.specs.Program.{searchText, graphsText};
 
-// A search from a fresh checkpoint.
+// A search from a fresh checkpoint, with no substitutes.
 fn search_first<'a>(
     orders: Orders,
     labels: Labels<'a>,
@@ -26,10 +27,10 @@ fn search_first<'a>(
     budget: u64,
 ) -> Searched
     ensures { λ r. ⌜ reportText (getD orders 0 0) (getD orders 1 0) (searchAnswer (r .answer)) (r .checkpoint)
-        ≡ searchText (lent orders (labels .entry) (edges .entry)) minimum budget ⌝ }
+        ≡ searchText (lent orders (labels .entry) (edges .entry) []) minimum budget ⌝ }
 {
     let mut workspace = [0u64; WORDS];
-    resume::start(orders, labels, edges, minimum, budget, &mut workspace)
+    resume::start(orders, labels, edges, &[], minimum, budget, &mut workspace)
 }
 
 // Both graphs are read, and the old one's refusal comes first.

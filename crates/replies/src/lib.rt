@@ -106,21 +106,38 @@ fn search_and_save<'a>(
     orders: Orders,
     labels: Labels<'a>,
     edges: Edges<'a>,
+    substitutes: &[u8],
     checkpoint: Checkpoint,
     budget: u64,
     workspace: &mut [u64],
     next: &mut [u8],
 ) -> ResumeReply
     ensures { λ r. ⌜ resumed (r .reply) (r .ceiling) (now (workspace .exit)) (now (next .exit))
-        ≡ searchFrom (lent orders (labels .entry) (edges .entry)) checkpoint budget (now (workspace .entry)) (now (next .entry)) ⌝ }
+        ≡ searchFrom (lent orders (labels .entry) (edges .entry) (now (substitutes .entry))) checkpoint budget
+        (now (workspace .entry)) (now (next .entry)) ⌝ }
 {
     let lent = workspace.len();
-    let searched = words::search_apart(orders, labels, edges, checkpoint, budget, lent);
+    let searched = words::search_apart(
+        orders,
+        labels,
+        edges,
+        substitutes,
+        checkpoint,
+        budget,
+        lent,
+    );
     let answer = searched.answer;
     let advanced = searched.checkpoint;
     match answer {
         SearchAnswer::Ceiling(ceiling) => {
-            let saved = checkpoint_bytes::save_checkpoint(orders, labels, edges, advanced, next);
+            let saved = checkpoint_bytes::save_checkpoint(
+                orders,
+                labels,
+                edges,
+                substitutes,
+                advanced,
+                next,
+            );
             match saved {
                 SaveAnswer::Written(count) => {
                     words::clear_words(workspace);
@@ -150,15 +167,17 @@ pub fn resume<'a>(
     orders: Orders,
     labels: Labels<'a>,
     edges: Edges<'a>,
+    substitutes: &[u8],
     bytes: &[u8],
     budget: u64,
     workspace: &mut [u64],
     next: &mut [u8],
 ) -> ResumeReply
     ensures { λ r. ⌜ resumed (r .reply) (r .ceiling) (now (workspace .exit)) (now (next .exit))
-        ≡ resumeFrom (lent orders (labels .entry) (edges .entry)) (now (bytes .entry)) budget (now (workspace .entry)) (now (next .entry)) ⌝ }
+        ≡ resumeFrom (lent orders (labels .entry) (edges .entry) (now (substitutes .entry))) (now (bytes .entry)) budget
+        (now (workspace .entry)) (now (next .entry)) ⌝ }
 {
-    let loaded = checkpoint_bytes::load_checkpoint(orders, labels, edges, bytes);
+    let loaded = checkpoint_bytes::load_checkpoint(orders, labels, edges, substitutes, bytes);
     let answer = loaded.answer;
     let checkpoint = loaded.checkpoint;
     match answer {
@@ -166,6 +185,7 @@ pub fn resume<'a>(
             orders,
             labels,
             edges,
+            substitutes,
             checkpoint,
             budget,
             workspace,
@@ -183,12 +203,13 @@ fn read_checkpoint<'a>(
     orders: Orders,
     labels: Labels<'a>,
     edges: Edges<'a>,
+    substitutes: &[u8],
     checkpoint: Checkpoint,
     mapping: &mut [u8],
 ) -> ReadReply
     requires { ⌜ getD orders 0 0 ≤ 64 ⌝ }
     ensures { λ r. ⌜ readOut (r .reply) (r .steps) (r .size) (r .ceiling) (now (mapping .exit))
-        ≡ readCheckpoint (lent orders (labels .entry) (edges .entry)) checkpoint (now (mapping .entry)) ⌝ }
+        ≡ readCheckpoint (lent orders (labels .entry) (edges .entry) (now (substitutes .entry))) checkpoint (now (mapping .entry)) ⌝ }
 {
     let entries = held::entries_held(checkpoint.holds, orders[0]);
     if mapping.len() < entries {
@@ -203,7 +224,15 @@ fn read_checkpoint<'a>(
         };
     }
     let mut workspace = [0u64; WORDS];
-    let searched = search::search(orders, labels, edges, checkpoint, 0, &mut workspace);
+    let searched = search::search(
+        orders,
+        labels,
+        edges,
+        substitutes,
+        checkpoint,
+        0,
+        &mut workspace,
+    );
     let answer = searched.answer;
     let incumbent = checkpoint.incumbent;
     let ceiling = values::search_value(answer);
@@ -224,17 +253,25 @@ pub fn read_out<'a>(
     orders: Orders,
     labels: Labels<'a>,
     edges: Edges<'a>,
+    substitutes: &[u8],
     bytes: &[u8],
     mapping: &mut [u8],
 ) -> ReadReply
     ensures { λ r. ⌜ readOut (r .reply) (r .steps) (r .size) (r .ceiling) (now (mapping .exit))
-        ≡ readBytes (lent orders (labels .entry) (edges .entry)) (now (bytes .entry)) (now (mapping .entry)) ⌝ }
+        ≡ readBytes (lent orders (labels .entry) (edges .entry) (now (substitutes .entry))) (now (bytes .entry)) (now (mapping .entry)) ⌝ }
 {
-    let loaded = checkpoint_bytes::load_checkpoint(orders, labels, edges, bytes);
+    let loaded = checkpoint_bytes::load_checkpoint(orders, labels, edges, substitutes, bytes);
     let answer = loaded.answer;
     let checkpoint = loaded.checkpoint;
     match answer {
-        LoadAnswer::InShape => read_checkpoint(orders, labels, edges, checkpoint, mapping),
+        LoadAnswer::InShape => read_checkpoint(
+            orders,
+            labels,
+            edges,
+            substitutes,
+            checkpoint,
+            mapping,
+        ),
         _ => ReadReply {
             reply: of_load(answer),
             steps: 0,

@@ -67,7 +67,7 @@ pub fn mapping_value(answer: MappingAnswer) -> u64
         MappingAnswer::Length => 0,
         MappingAnswer::NoVertex(row) => row.0 as u64,
         MappingAnswer::SameImage(row, _) => row.0 as u64,
-        MappingAnswer::LabelsDiffer(row) => row.0 as u64,
+        MappingAnswer::LabelsDisagree(row) => row.0 as u64,
         MappingAnswer::EdgesDiffer(row, _) => row.0 as u64,
     }
 }
@@ -82,7 +82,7 @@ pub fn earlier_row(answer: MappingAnswer) -> u64
         MappingAnswer::Length => 0,
         MappingAnswer::NoVertex(_) => 0,
         MappingAnswer::SameImage(_, earlier) => earlier.0 as u64,
-        MappingAnswer::LabelsDiffer(_) => 0,
+        MappingAnswer::LabelsDisagree(_) => 0,
         MappingAnswer::EdgesDiffer(_, earlier) => earlier.0 as u64,
     }
 }

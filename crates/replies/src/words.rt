@@ -19,16 +19,25 @@ pub fn search_apart<'a>(
     orders: Orders,
     labels: Labels<'a>,
     edges: Edges<'a>,
+    substitutes: &[u8],
     checkpoint: Checkpoint,
     budget: u64,
     words: usize,
 ) -> Searched
     ensures { λ r. ⌜ ((workspace : List ℕ) → length workspace ≡ words
-        → FoundBy r (searchCall (lent orders (labels .entry) (edges .entry)) checkpoint budget workspace)) ⌝ }
+        → FoundBy r (searchCall (lent orders (labels .entry) (edges .entry) (now (substitutes .entry))) checkpoint budget workspace)) ⌝ }
 {
     let mut own = [0u64; WORDS];
     let used = if words < WORDS { words } else { WORDS };
-    search::search(orders, labels, edges, checkpoint, budget, &mut own[..used])
+    search::search(
+        orders,
+        labels,
+        edges,
+        substitutes,
+        checkpoint,
+        budget,
+        &mut own[..used],
+    )
 }
 
 // The words that a call needs become 0.

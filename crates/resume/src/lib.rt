@@ -18,14 +18,23 @@ pub fn resume<'a>(
     orders: Orders,
     labels: Labels<'a>,
     edges: Edges<'a>,
+    substitutes: &[u8],
     checkpoint: &mut Checkpoint,
     budget: u64,
     workspace: &mut [u64],
 ) -> SearchAnswer
     ensures { λ r. ⌜ lentCall r (now (checkpoint .exit)) (now (workspace .exit))
-        ≡ searchCall (lent orders (labels .entry) (edges .entry)) (now (checkpoint .entry)) budget (now (workspace .entry)) ⌝ }
+        ≡ searchCall (lent orders (labels .entry) (edges .entry) (now (substitutes .entry))) (now (checkpoint .entry)) budget (now (workspace .entry)) ⌝ }
 {
-    let called = search::search(orders, labels, edges, *checkpoint, budget, workspace);
+    let called = search::search(
+        orders,
+        labels,
+        edges,
+        substitutes,
+        *checkpoint,
+        budget,
+        workspace,
+    );
     *checkpoint = called.checkpoint;
     called.answer
 }
@@ -35,14 +44,23 @@ pub fn start<'a>(
     orders: Orders,
     labels: Labels<'a>,
     edges: Edges<'a>,
+    substitutes: &[u8],
     minimum: u8,
     budget: u64,
     workspace: &mut [u64],
 ) -> Searched
     ensures { λ r. ⌜ calledOf r (now (workspace .exit))
-        ≡ searchCall (lent orders (labels .entry) (edges .entry)) (freshCheckpoint minimum) budget (now (workspace .entry)) ⌝ }
+        ≡ searchCall (lent orders (labels .entry) (edges .entry) (now (substitutes .entry))) (freshCheckpoint minimum) budget (now (workspace .entry)) ⌝ }
 {
     let mut checkpoint = Checkpoint::fresh(minimum);
-    let answer = resume(orders, labels, edges, &mut checkpoint, budget, workspace);
+    let answer = resume(
+        orders,
+        labels,
+        edges,
+        substitutes,
+        &mut checkpoint,
+        budget,
+        workspace,
+    );
     Searched { answer, checkpoint }
 }

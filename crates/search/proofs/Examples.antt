@@ -1,4 +1,4 @@
--- 01, "Marked examples to prove": all fourteen rows, by the definitions that the contracts cite. The walk and the readings are computed;
+-- 01, "Marked examples to prove": all fourteen rows, and three of 02, U1, with a list, by the definitions that the contracts cite. The walk and the readings are computed;
 -- that the graphs read are sound is cited, as computing it would take minutes.
 use mathlib.Core.Path.{_≡_, refl, ap, _∙_}
 use mathlib.Core.Bool.{Bool, true, false, _&&_, and-eq-true-iff}
@@ -9,13 +9,19 @@ use native.Mathlib.Omega.{arith}
 use lib.Dec.{leb, lit<}
 use lib.ListN.{getD, replicate, length-replicate, drop-of-length-le}
 use borrow.Author.Tests.{leb-true}
-use Rattle.bounded.specs.Below.{allBelow, sumBelow, runBelow}
+use Rattle.bounded.specs.Below.{allBelow, someBelow, sumBelow, runBelow}
+use Rattle.bounded.specs.First.{firstBelow}
 use Rattle.answers.specs.Answer.{Answer, passed, accepted, refused, refusedAt}
 use Rattle.graph.specs.Graph.{Graph, graph, Sound}
 use Rattle.graph_reader.specs.Reading.{Reading, reading, readFrom, judge, refuseAt}
 use Rattle.graph_reader.proofs.ReadSound.{reading-sound}
-use Rattle.problem.specs.Problem.{Problem, SoundProblem, problem, allowed, consistent}
+use Rattle.substitutes.specs.Substitutes.{listed, agree}
+use Rattle.substitutes.specs.Soundness.{substitutesAnswer}
+use Rattle.substitutes.proofs.SoundList.{none-sound, passes-sound-list}
+use Rattle.problem.specs.Problem.{Problem, SoundProblem, problem, substituting, allowed, consistent}
 use Rattle.mapping.specs.Common.{mappedFrom, size}
+use Rattle.mapping.specs.Answers as outcome
+use Rattle.mapping.specs.Check.{rowFault, listOutcome}
 use Rattle.search_tree.specs.Rules.{rulesOf}
 use Rattle.search_tree.specs.Search.{searchOf}
 use Rattle.search_tree.specs.Node.{candidate, candidates, upperBound, choices, children, choicesAfter, laterSiblings, openNodes}
@@ -71,6 +77,13 @@ linked = 1 ∷ 7 ∷ 1 ∷ 9 ∷ 2 ∷ 0 ∷ 1 ∷ 1 ∷ 0 ∷ []
 
 abbrev unlinked : List ℕ
 unlinked = 1 ∷ 7 ∷ 1 ∷ 9 ∷ 0 ∷ []
+
+abbrev nine : List ℕ
+nine = 1 ∷ 9 ∷ 0 ∷ []
+
+-- one part of kind 7 against one of kind 9, with these substitutes
+abbrev listing : List ℕ → Problem
+listing list = substituting list (between one nine)
 
 -- just the words needed, each holding 9
 unfoldable pub workspace : List ℕ
@@ -135,7 +148,11 @@ ends P sound minimum steps incumbent top walk above = λ i. record {
 -- what is read from bytes without a fault is a sound problem
 between-sound : (l k : List ℕ) → bytes l ≡ true → bytes k ≡ true → (n m : ℕ) → readTables l .answer ≡ accepted n → readTables k .answer ≡ accepted m
     → SoundProblem (between l k)
-between-sound l k sl sk n m el ek = record { old-sound = read-sound l sl n el; new-sound = read-sound k sk m ek }
+between-sound l k sl sk n m el ek = record {
+  old-sound = read-sound l sl n el;
+  new-sound = read-sound k sk m ek;
+  substitutes-sound = none-sound;
+}
 
 pair-sound : SoundProblem pair
 unfolding reading readFrom judge bytes
@@ -153,9 +170,15 @@ linked-sound : SoundProblem (between linked unlinked)
 unfolding reading readFrom judge bytes
 linked-sound = between-sound linked unlinked refl refl 2 2 refl refl
 
+listing-sound : (list : List ℕ) → substitutesAnswer list ≡ passed → SoundProblem (listing list)
+unfolding reading readFrom judge bytes
+listing-sound list e =
+    let graphs = between-sound one nine refl refl 1 1 refl refl in
+    record { old-sound = graphs .old-sound; new-sound = graphs .new-sound; substitutes-sound = passes-sound-list list e }
+
 -- ---- the rows
 
--- 01's marked examples, row by row.
+-- 01's marked examples, row by row, with no substitutes; then three with a list, of the check and of the search from floor 0.
 pub marked-examples :
     -- P, floor 1: 1 0 255, 6 steps, fence 3
     Ends pair 1 6 (some (1 ∷ 0 ∷ 255 ∷ [])) 3
@@ -186,7 +209,13 @@ pub marked-examples :
     × (readTables (1 ∷ 7 ∷ 2 ∷ 0 ∷ 1 ∷ 1 ∷ 0 ∷ []) ≡ refuseAt 5 2)
     -- 1 7 2 0 0 1 0: 6 at 2
     × (readTables (1 ∷ 7 ∷ 2 ∷ 0 ∷ 0 ∷ 1 ∷ 0 ∷ []) ≡ refuseAt 6 2)
-unfolding reading readFrom judge allBelow sumBelow runBelow allowed consistent mappedFrom candidate candidates upperBound choices children choicesAfter laterSiblings openNodes visitPath visit after topBound ceiling checkpointOf
+    -- 7 against 9, list 7 9: 0 is good, 3 steps, fence 2
+    × ((listOutcome (listing (7 ∷ 9 ∷ [])) (0 ∷ []) ≡ outcome.accepted 1) × Ends (listing (7 ∷ 9 ∷ [])) 0 3 (some (0 ∷ [])) 2)
+    -- 7 against 9, list 9 7: 21 at row 0, and 255, 2 steps, fence 1: a pair is read old then new
+    × ((listOutcome (listing (9 ∷ 7 ∷ [])) (0 ∷ []) ≡ outcome.refusedRow 21 0) × Ends (listing (9 ∷ 7 ∷ [])) 0 2 (some (255 ∷ [])) 1)
+    -- 7 against 9, list 7 8 8 9: the same, since pairs make no chain
+    × ((listOutcome (listing (7 ∷ 8 ∷ 8 ∷ 9 ∷ [])) (0 ∷ []) ≡ outcome.refusedRow 21 0) × Ends (listing (7 ∷ 8 ∷ 8 ∷ 9 ∷ [])) 0 2 (some (255 ∷ [])) 1)
+unfolding reading readFrom judge allBelow someBelow sumBelow runBelow firstBelow listed agree substitutesAnswer rowFault listOutcome allowed consistent mappedFrom candidate candidates upperBound choices children choicesAfter laterSiblings openNodes visitPath visit after topBound ceiling checkpointOf
 marked-examples = (
   ends pair pair-sound 1 6 (some (1 ∷ 0 ∷ 255 ∷ [])) 3 refl refl,
   (ap (incumbentIn pair) (checkpoint-at pair pair-sound 1 3 (lit< tt) _ refl), answers pair pair-sound 1 3 (lit< tt) 3 refl),
@@ -207,4 +236,7 @@ marked-examples = (
   refl,
   refl,
   refl,
+  (refl, ends (listing (7 ∷ 9 ∷ [])) (listing-sound (7 ∷ 9 ∷ []) refl) 0 3 (some (0 ∷ [])) 2 refl refl),
+  (refl, ends (listing (9 ∷ 7 ∷ [])) (listing-sound (9 ∷ 7 ∷ []) refl) 0 2 (some (255 ∷ [])) 1 refl refl),
+  (refl, ends (listing (7 ∷ 8 ∷ 8 ∷ 9 ∷ [])) (listing-sound (7 ∷ 8 ∷ 8 ∷ 9 ∷ []) refl) 0 2 (some (255 ∷ [])) 1 refl refl),
 )

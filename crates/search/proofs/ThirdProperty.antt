@@ -151,7 +151,7 @@ no-14 (inl e) a = let z : _≡_ {A = ℕ} 14 15 = cc in omega arith
 no-14 (inr (inl e)) a = let z : _≡_ {A = ℕ} 14 16 = cc in omega arith
 no-14 (inr (inr (n, e))) a = true≢false (cc)
 
--- The third property holds of two sound graphs, every minimum, the walk's total and every list of calls, with any budgets and workspaces.
+-- The third property holds of every sound problem, every minimum, the walk's total and every list of calls, with any budgets and workspaces.
 pub third-property : (P : Problem) → SoundProblem P → (minimum t : ℕ) → IsTotal (searchOf P) minimum t
     → (calls : List Call) → ThirdProperty P minimum t calls
 third-property P sound minimum t total calls = record {

@@ -1,4 +1,5 @@
--- One search call, by 01's table in its order: 01, "Bookmark and calls", second paragraph, and the rows "Bookmark" and "Search call" of the refusals.
+-- One search call, by 01's table in its order: 01, "Bookmark and calls", second paragraph, and the rows "Bookmark" and "Search call" of the refusals;
+-- 02, U1, puts the list's before them.
 use mathlib.Core.Bool.{Bool, cond, _||_}
 use mathlib.Core.List.{List, _++_}
 use Prim.Native.Nat.{ℕ, zero, suc, _+_, _^_}
@@ -55,7 +56,7 @@ countFits c budget = c .finished || ltb (c .steps + budget) (2 ^ 64)
 abbrev pub onPassed : Answer → Called → (ℕ → Called) → Called
 onPassed answer done refusal = onAnswer done refusal refusal (λ number at. refusal number) answer
 
--- 10, 11 and 12; then 14; then 15; then 16
+-- 10, 11, 12, 23 and 24; then 14; then 15; then 16
 unfoldable pub searchCall : Problem → Checkpoint → ℕ → List ℕ → Called
 searchCall P c budget workspace =
     onPassed (checkpointAnswer P c)

@@ -14,7 +14,7 @@ pub record Call : Type 0 where
   pub budget : ℕ
   pub workspace : List ℕ
 
--- "All calls of a list have the same two charts."
+-- "All calls of a list have the same two charts."; 02, U1: "calls that resume one another take the same list"
 abbrev pub called : Problem → Checkpoint → Call → Called
 called P c call = searchCall P c (call .budget) (call .workspace)
 

@@ -67,21 +67,23 @@ fn advance<'a>(
     orders: Orders,
     labels: Labels<'a>,
     edges: Edges<'a>,
+    substitutes: &[u8],
     checkpoint: Checkpoint,
     budget: u64,
     workspace: &mut [u64],
 ) -> Searched
-    requires { ⌜ SoundProblem (lent orders labels edges) ⌝ }
-    requires { ⌜ InShape (lent orders labels edges) checkpoint ⌝ }
+    requires { ⌜ SoundProblem (lent orders labels edges (now substitutes)) ⌝ }
+    requires { ⌜ InShape (lent orders labels edges (now substitutes)) checkpoint ⌝ }
     requires { ⌜ (length (now workspace) ≡ 4160) × T (countFits checkpoint budget) ⌝ }
     ensures { λ r. ⌜ calledOf r (now (workspace .exit))
-        ≡ advanced (lent orders (labels .entry) (edges .entry)) checkpoint budget (now (workspace .entry)) ⌝ }
+        ≡ advanced (lent orders (labels .entry) (edges .entry) (now (substitutes .entry))) checkpoint budget (now (workspace .entry)) ⌝ }
 {
     let old_order = orders[0];
     let old_edges = edges[0];
     let mut masks = [0u64; words::MASKS];
     words::fill_masks(orders[1], edges[1], &mut masks);
-    words::root_words(orders, labels, workspace);
+    let agreeing = substitutes::agreeing(labels[0], labels[1], substitutes);
+    words::root_words(old_order, &agreeing, workspace);
     let later = words::all_later(old_edges);
     let start = walk::start(checkpoint, old_order, old_edges, &masks, &later, workspace);
     let end = walk::run(
@@ -107,14 +109,15 @@ pub fn search<'a>(
     orders: Orders,
     labels: Labels<'a>,
     edges: Edges<'a>,
+    substitutes: &[u8],
     checkpoint: Checkpoint,
     budget: u64,
     workspace: &mut [u64],
 ) -> Searched
     ensures { λ r. ⌜ calledOf r (now (workspace .exit))
-        ≡ searchCall (lent orders (labels .entry) (edges .entry)) checkpoint budget (now (workspace .entry)) ⌝ }
+        ≡ searchCall (lent orders (labels .entry) (edges .entry) (now (substitutes .entry))) checkpoint budget (now (workspace .entry)) ⌝ }
 {
-    match checkpoint::check_checkpoint(orders, labels, edges, checkpoint) {
+    match checkpoint::check_checkpoint(orders, labels, edges, substitutes, checkpoint) {
         ShapeAnswer::Flawed(flaw) => Searched {
             answer: SearchAnswer::Flawed(flaw),
             checkpoint,
@@ -141,6 +144,7 @@ pub fn search<'a>(
                 orders,
                 labels,
                 edges,
+                substitutes,
                 checkpoint,
                 budget,
                 &mut workspace[..WORDS],

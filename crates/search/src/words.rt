@@ -5,16 +5,13 @@ use bitset::Least;
 use graph::MAX_ORDER;
 use mapping::NewVertex;
 use mapping::OldVertex;
-use problem::Labels;
-use problem::Orders;
 ghost use mathlib.Core.Path.{_≡_};
 ghost use mathlib.Core.List.{[], _++_};
 ghost use Prim.Native.Nat.{ℕ, _+_, _*_, _≤_, _<_};
 ghost use lib.ListN.{length, getD, drop, replicate};
-ghost use Rattle.bitset.specs.Members.{setOf};
 ghost use Rattle.graph.specs.Graph.{graph};
-ghost use Rattle.problem.specs.Problem.{allowed};
-ghost use Rattle.problem.specs.Lent.{Tables, lent, BothLong};
+ghost use Rattle.problem.specs.Problem.{Problem};
+ghost use Rattle.problem.specs.VertexSets.{VertexSets};
 ghost use Rattle.bitset.specs.Count.{size};
 ghost use Rattle.search.specs.Words.{Masks, MaskRow, RootWords, levelWord, Counted, openRows};
 ghost use Rattle.search.specs.Words.{laterNeighbours, Later, Met, nearWord, farWord};
@@ -59,37 +56,16 @@ pub fn fill_masks(order: usize, edges: &[u8], masks: &mut [u64])
     }
 }
 
-// The new vertices that the old vertex `row` may lie on. No edge has a say in it.
-pub fn allowed_word<'a>(orders: Orders, labels: Labels<'a>, row: OldVertex) -> u64
-    requires { ⌜ BothLong 64 labels × (getD orders 1 0 ≤ 64) × (row .0 < 64) ⌝ }
-    ensures { λ r. ⌜ ((edges : Tables) → r ≡ setOf 64 (allowed (lent orders (labels .entry) edges) (row .0))) ⌝ }
+// The words of the root, level 0: each row's vertices that it may lie on, those whose labels agree, and the set of the rows that have some.
+pub fn root_words(order: usize, agreeing: &[u64; MAX_ORDER], workspace: &mut [u64])
+    requires { ⌜ (order ≤ 64) × (4160 ≤ length (now workspace)) ⌝ }
+    ensures { λ _. ⌜ ((P : Problem) → P .old .order ≡ order → VertexSets P (now (agreeing .entry))
+        → RootWords P (now (workspace .entry)) (now (workspace .exit))) ⌝ }
 {
-    let order = orders[1];
-    let old = labels[0];
-    let new = labels[1];
-    let at = row.0;
-    let label = old[at];
-    let mut word = 0;
-    let mut v = 0;
-    while v < order {
-        if label == new[v] {
-            word = bitset::with(word, v);
-        }
-        v += 1;
-    }
-    word
-}
-
-// The words of the root, level 0: each row's vertices that it may lie on, and the set of the rows that have some.
-pub fn root_words<'a>(orders: Orders, labels: Labels<'a>, workspace: &mut [u64])
-    requires { ⌜ BothLong 64 labels × (getD orders 0 0 ≤ 64) × (getD orders 1 0 ≤ 64) × (4160 ≤ length (now workspace)) ⌝ }
-    ensures { λ _. ⌜ ((edges : Tables) → RootWords (lent orders (labels .entry) edges) (now (workspace .entry)) (now (workspace .exit))) ⌝ }
-{
-    let order = orders[0];
     let mut rows = 0;
     let mut r = 0;
     while r < order {
-        let word = allowed_word(orders, labels, OldVertex(r));
+        let word = agreeing[r];
         workspace[r] = word;
         if !bitset::is_empty(word) {
             rows = bitset::with(rows, r);

@@ -1,4 +1,4 @@
--- The walk of a problem between two sound graphs: it holds common subgraphs only, its ceiling is above them all, it ends, and at its end
+-- The walk of a sound problem: it holds common subgraphs only, its ceiling is above them all, it ends, and at its end
 -- it holds the best one (01, the properties of an answer).
 use mathlib.Core.Path.{_≡_, refl, subst}
 use mathlib.Core.Logic.{_↔_}
@@ -29,7 +29,7 @@ use Rattle.search_tree.proofs.Best.{best-same, best-unique}
 use Rattle.search_tree.proofs.Solutions.{Solution, incumbent-candidate, solution-below, total-best}
 
 module _ (P : Problem) (sound : SoundProblem P) where
-  -- The rules of two sound graphs are regular: a new vertex is below 64, and two rows that stand together have two partners.
+  -- The rules of a sound problem are regular: a new vertex is below 64, and two rows that stand together have two partners.
   pub rules-regular : Regular (rulesOf P)
   rules-regular = record {
     few = omega (arith, sound .new-sound .order-max);

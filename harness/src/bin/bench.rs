@@ -7,16 +7,17 @@
 //! `run` does this with valgrind, and divides by the visits.
 
 use std::env;
+use std::mem;
 use std::process::ExitCode;
 use std::time::Duration;
 
 use harness::answer::Answer;
 use harness::cases::{graph, Style};
 use harness::fast::Search;
-use harness::library::{self, CHECKPOINT_BYTES, WORKSPACE_WORDS};
+use harness::library::{self, CHECKPOINT_BYTES, MAX_VERTICES, SUBSTITUTES_BYTES, WORKSPACE_WORDS};
 use harness::panels;
 use harness::random::Random;
-use harness::reference::{Checkpoint, Problem};
+use harness::reference::{Checkpoint, Graph, Problem, Substitutes};
 
 /// A walk of 20 million visits is timed in slices.
 const SLICES: usize = 20;
@@ -41,6 +42,9 @@ enum Shape {
         vertex_labels: u8,
         seed: u64,
     },
+    /// Two graphs of 64 vertices and all edges, with so many labels each and none in common: each
+    /// label has one substitute.
+    Strangers { vertex_labels: u8 },
 }
 
 const WALKS: [Shape; 12] = [
@@ -66,6 +70,15 @@ const SINGLE_CALLS: [Shape; 5] = [
     panel(64, 20, 0),
 ];
 
+/// Timed with a full list.
+const LISTED_CALLS: [Shape; 5] = [
+    random(64, 2, 1, 30),
+    panel(64, 20, 0),
+    strangers(1),
+    strangers(8),
+    strangers(64),
+];
+
 const fn random(order: usize, vertex_labels: u8, edge_labels: u8, density: usize) -> Shape {
     Shape::Random {
         order,
@@ -81,6 +94,10 @@ const fn panel(order: usize, vertex_labels: u8, seed: u64) -> Shape {
         vertex_labels,
         seed,
     }
+}
+
+const fn strangers(vertex_labels: u8) -> Shape {
+    Shape::Strangers { vertex_labels }
 }
 
 fn main() -> ExitCode {
@@ -130,9 +147,11 @@ fn time_all() {
     let walks = WALKS.map(|shape| time_walk(&shape));
     println!("calls of one visit, best of {ROUNDS} rounds of {CALLS} calls:");
     let calls = SINGLE_CALLS.map(|shape| time_calls(&shape));
+    println!("the same with {SUBSTITUTES_BYTES} bytes of substitutes:");
+    let listed_calls = LISTED_CALLS.map(|shape| time_listed_calls(&shape));
 
     let worst_ratio = walks.iter().map(|walk| walk.ratio).fold(0.0, f64::max);
-    let worst_call = calls.into_iter().fold(0.0, f64::max);
+    let worst_call = calls.into_iter().chain(listed_calls).fold(0.0, f64::max);
     let same = walks.iter().all(|walk| walk.same);
     println!("same steps, incumbents and ceilings: {}", yes_or_no(same));
     println!(
@@ -195,12 +214,34 @@ fn time_calls(shape: &Shape) -> f64 {
     let mut library = LibrarySearch::start(&problem);
     let times = [0, 40, 100_000].map(|visits| {
         library.advance(visits);
-        let rounds = (0..ROUNDS).map(|_| timed(|| library.single_calls()));
-        rounds.min().unwrap_or_default().as_secs_f64() * 1e6 / f64::from(CALLS)
+        library.single_call_time()
     });
     let [fresh, down, late] = times;
     println!("  {shape}: {fresh:.1} us fresh, {down:.1} us after 40 visits, {late:.1} us later");
     times.into_iter().fold(0.0, f64::max)
+}
+
+/// The microseconds of the dearest of three calls: from a fresh checkpoint with the empty list and
+/// with a full one, and with that after 65 visits. Between strangers a mapping of all vertices is
+/// held by then, and it and the path go through the list's last pairs.
+fn time_listed_calls(shape: &Shape) -> f64 {
+    let mut problem = shape.problem();
+    let last = mem::take(&mut problem.substitutes.pairs);
+    let empty = LibrarySearch::start(&problem).single_call_time();
+
+    // the pairs before are about the old labels too, and let none agree
+    let before = (0..SUBSTITUTES_BYTES / 2 - last.len())
+        .map(|number| [problem.old.label(number % MAX_VERTICES), UNUSED_LABEL]);
+    problem.substitutes.pairs = before.chain(last).collect();
+    let mut library = LibrarySearch::start(&problem);
+    let fresh = library.single_call_time();
+    library.advance(MAX_VERTICES as u64 + 1);
+    let down = library.single_call_time();
+    println!(
+        "  {shape}: {fresh:.1} us fresh, {down:.1} us after 65 visits; \
+        with the empty list {empty:.1} us fresh"
+    );
+    empty.max(fresh).max(down)
 }
 
 impl Shape {
@@ -222,6 +263,7 @@ impl Shape {
                 Problem {
                     old: one(),
                     new: one(),
+                    substitutes: Substitutes::default(),
                 }
             }
             Shape::Panel {
@@ -229,8 +271,37 @@ impl Shape {
                 vertex_labels,
                 seed,
             } => panels::problem(&mut Random::new(seed), order, vertex_labels),
+            Shape::Strangers { vertex_labels } => {
+                let substitutes = (0..vertex_labels)
+                    .map(|label| [OLD_LABEL, NEW_LABEL].map(|first| first + label));
+                Problem {
+                    old: complete(OLD_LABEL, vertex_labels),
+                    new: complete(NEW_LABEL, vertex_labels),
+                    substitutes: Substitutes {
+                        pairs: substitutes.collect(),
+                    },
+                }
+            }
         }
     }
+}
+
+/// The first labels of strangers, and one that no graph here has.
+const OLD_LABEL: u8 = 1;
+const NEW_LABEL: u8 = 101;
+const UNUSED_LABEL: u8 = 255;
+
+/// 64 vertices, whose labels go round from `first` on, and all edges.
+fn complete(first: u8, vertex_labels: u8) -> Graph {
+    let mut graph = Graph::default();
+    for vertex in 0..MAX_VERTICES {
+        let label = first + vertex as u8 % vertex_labels;
+        graph.add_vertex(label).unwrap();
+        for earlier in 0..vertex {
+            graph.add_edge(earlier, vertex, 1).unwrap();
+        }
+    }
+    graph
 }
 
 impl std::fmt::Display for Shape {
@@ -253,6 +324,10 @@ impl std::fmt::Display for Shape {
                 f,
                 "{order} vertices, {vertex_labels} + 3 labels, panel seed {seed:2}"
             ),
+            Shape::Strangers { vertex_labels } => write!(
+                f,
+                "{MAX_VERTICES} vertices, {vertex_labels:2} + 1 labels, none in common"
+            ),
         }
     }
 }
@@ -261,6 +336,7 @@ impl std::fmt::Display for Shape {
 struct LibrarySearch {
     old: Vec<u8>,
     new: Vec<u8>,
+    substitutes: Vec<u8>,
     checkpoint: Vec<u8>,
     workspace: Vec<u64>,
 }
@@ -268,12 +344,14 @@ struct LibrarySearch {
 impl LibrarySearch {
     fn start(problem: &Problem) -> LibrarySearch {
         let (old, new) = (problem.old.save(), problem.new.save());
+        let substitutes = problem.substitutes.save();
         let mut checkpoint = vec![0; CHECKPOINT_BYTES];
-        let answer = library::start(&old, &new, 0, &mut checkpoint);
+        let answer = library::start(&old, &new, &substitutes, 0, &mut checkpoint);
         checkpoint.truncate(accepted(answer).value as usize);
         LibrarySearch {
             old,
             new,
+            substitutes,
             checkpoint,
             workspace: vec![0; WORKSPACE_WORDS],
         }
@@ -288,6 +366,12 @@ impl LibrarySearch {
         answer.ceiling
     }
 
+    /// The microseconds of one call of one visit.
+    fn single_call_time(&mut self) -> f64 {
+        let rounds = (0..ROUNDS).map(|_| timed(|| self.single_calls()));
+        rounds.min().unwrap_or_default().as_secs_f64() * 1e6 / f64::from(CALLS)
+    }
+
     fn single_calls(&mut self) {
         let mut next = [0; CHECKPOINT_BYTES];
         for _ in 0..CALLS {
@@ -299,10 +383,11 @@ impl LibrarySearch {
         let LibrarySearch {
             old,
             new,
+            substitutes,
             checkpoint,
             workspace,
         } = self;
-        library::resume(old, new, checkpoint, budget, workspace, next)
+        library::resume(old, new, substitutes, checkpoint, budget, workspace, next)
     }
 }
 

@@ -1,6 +1,7 @@
 //! `compare [SEED] [COUNT]` makes COUNT random cases by the proved search and by the second
-//! implementation, and stops at the first disagreement. With `--trace` before these it names each
-//! case first, so that one that crashes is known. `compare --replay KIND SEED` makes one case, and
+//! implementation, and stops at the first disagreement. It also fails if the cases were many, and
+//! yet a fault that they should have never came. With `--trace` before these it names each case
+//! first, so that one that crashes is known. `compare --replay KIND SEED` makes one case, and
 //! prints every call with both outcomes.
 
 use std::collections::BTreeMap;
@@ -76,6 +77,11 @@ fn compare(trace: bool, seed: u64, count: usize) -> ExitCode {
         }
     }
     summarise(&judges);
+    let missing = missing(&judges);
+    if count >= COUNT && !missing.is_empty() {
+        println!("never came: {}", missing.join(", "));
+        return ExitCode::FAILURE;
+    }
     println!("all agree ({:.1} s)", begin.elapsed().as_secs_f64());
     ExitCode::SUCCESS
 }
@@ -94,19 +100,62 @@ fn kind_of(case: usize) -> usize {
 
 fn summarise(judges: &[Judge]) {
     let mut total = 0;
-    let mut answers: BTreeMap<u32, u64> = BTreeMap::new();
     for (kind, judge) in KINDS.iter().zip(judges) {
         println!("{:8} {:7} comparisons", kind.name, judge.comparisons);
         total += judge.comparisons;
-        for (number, times) in &judge.answers {
-            *answers.entry(*number).or_default() += times;
-        }
     }
     println!("all      {total:7} comparisons");
-    let times = answers
-        .iter()
-        .map(|(number, times)| format!("{number}: {times}"));
-    println!("answers  {}", times.collect::<Vec<_>>().join(", "));
+    let answers = sums(judges.iter().map(|judge| &judge.answers));
+    println!("answers  {}", listed(answers));
+    let faults = list_faults(judges);
+    for fault in LIST_FAULTS {
+        let of_it = faults.iter().filter(|((number, _), _)| *number == fault);
+        let beside = of_it.map(|(&(_, beside), &times)| (beside, times));
+        println!("{fault} with  {}", listed(beside));
+    }
+}
+
+/// The numbers of a list's faults.
+const LIST_FAULTS: [u32; 2] = [23, 24];
+/// What else may be wrong with a call whose list is at fault: nothing (0), something of a graph,
+/// which comes before it, or each of the faults that come after it.
+const BESIDE: [u32; 15] = [0, 1, 2, 5, 9, 13, 14, 15, 16, 17, 18, 19, 20, 21, 22];
+
+/// The faults that never came: each list's with each other one, and a search that goes on under
+/// another list, taken and refused.
+fn missing(judges: &[Judge]) -> Vec<String> {
+    let faults = list_faults(judges);
+    let pairs = LIST_FAULTS.into_iter().flat_map(|f| BESIDE.map(|b| (f, b)));
+    let never = pairs.filter(|pair| !faults.contains_key(pair));
+    let mut missing: Vec<String> = never.map(|(f, b)| format!("{f} with {b}")).collect();
+    let relisted = KINDS.iter().position(|kind| kind.name == "relisted");
+    let answers = relisted.map(|number| &judges[number].answers);
+    for number in [0, 14] {
+        if answers.is_none_or(|answers| !answers.contains_key(&number)) {
+            missing.push(format!("relisted with {number}"));
+        }
+    }
+    missing
+}
+
+fn list_faults(judges: &[Judge]) -> BTreeMap<(u32, u32), u64> {
+    sums(judges.iter().map(|judge| &judge.list_faults))
+}
+
+fn sums<'a, K: Copy + Ord + 'a>(
+    counts: impl Iterator<Item = &'a BTreeMap<K, u64>>,
+) -> BTreeMap<K, u64> {
+    let mut sums = BTreeMap::new();
+    for (key, times) in counts.flatten() {
+        *sums.entry(*key).or_default() += times;
+    }
+    sums
+}
+
+fn listed(counts: impl IntoIterator<Item = (u32, u64)>) -> String {
+    let counts = counts.into_iter();
+    let texts = counts.map(|(number, times)| format!("{number}: {times}"));
+    texts.collect::<Vec<_>>().join(", ")
 }
 
 fn replay(kind: Kind, seed: u64) -> ExitCode {

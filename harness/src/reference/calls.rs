@@ -11,15 +11,21 @@ pub fn check_graph(graph: &[u8]) -> Answer {
     answer(Graph::parse(graph).map(|graph| Answer::accepted(graph.order() as u64)))
 }
 
-pub fn check_mapping(old: &[u8], new: &[u8], mapping: &[u8]) -> Answer {
-    let checked = Problem::parse(old, new)
+pub fn check_mapping(old: &[u8], new: &[u8], substitutes: &[u8], mapping: &[u8]) -> Answer {
+    let checked = Problem::parse(old, new, substitutes)
         .and_then(|problem| check(&problem, &entries_from_bytes(mapping)))
         .map(|size| Answer::accepted(size as u64));
     answer(checked)
 }
 
-pub fn start(old: &[u8], new: &[u8], minimum: u8, checkpoint: &mut [u8]) -> Answer {
-    let started = Problem::parse(old, new)
+pub fn start(
+    old: &[u8],
+    new: &[u8],
+    substitutes: &[u8],
+    minimum: u8,
+    checkpoint: &mut [u8],
+) -> Answer {
+    let started = Problem::parse(old, new, substitutes)
         .and_then(|_| fill(checkpoint, &Checkpoint::fresh(minimum).save()))
         .map(Answer::accepted);
     answer(started)
@@ -28,12 +34,13 @@ pub fn start(old: &[u8], new: &[u8], minimum: u8, checkpoint: &mut [u8]) -> Answ
 pub fn resume(
     old: &[u8],
     new: &[u8],
+    substitutes: &[u8],
     checkpoint: &[u8],
     budget: u64,
     workspace: &mut [u64],
     next: &mut [u8],
 ) -> Answer {
-    let resumed = Problem::parse(old, new).and_then(|problem| {
+    let resumed = Problem::parse(old, new, substitutes).and_then(|problem| {
         let checkpoint = Checkpoint::load(&problem, checkpoint)?;
         may_advance(&checkpoint, budget, workspace)?;
         let after = advance(&problem, &checkpoint, budget);
@@ -48,8 +55,14 @@ pub fn resume(
     answer(resumed)
 }
 
-pub fn read_out(old: &[u8], new: &[u8], checkpoint: &[u8], mapping: &mut [u8]) -> Answer {
-    let read = Problem::parse(old, new).and_then(|problem| {
+pub fn read_out(
+    old: &[u8],
+    new: &[u8],
+    substitutes: &[u8],
+    checkpoint: &[u8],
+    mapping: &mut [u8],
+) -> Answer {
+    let read = Problem::parse(old, new, substitutes).and_then(|problem| {
         let checkpoint = Checkpoint::load(&problem, checkpoint)?;
         let incumbent = checkpoint.incumbent.as_deref().unwrap_or_default();
         fill(mapping, &entries_to_bytes(incumbent))?;

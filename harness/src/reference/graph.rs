@@ -1,6 +1,6 @@
 //! Graphs, and graph bytes read and judged (01, "Charts").
 
-use super::{Reason, Refusal};
+use super::{Reason, Refusal, Substitutes};
 
 pub const MAX_VERTICES: usize = 64;
 
@@ -90,18 +90,26 @@ impl Graph {
     }
 }
 
-/// The two graphs of a search.
+/// The two graphs of a search, and which labels may stand in for others.
 #[derive(Clone, Debug, PartialEq, Eq)]
 pub struct Problem {
     pub old: Graph,
     pub new: Graph,
+    pub substitutes: Substitutes,
 }
 
 impl Problem {
-    pub fn parse(old: &[u8], new: &[u8]) -> Result<Problem, Refusal> {
+    pub fn parse(old: &[u8], new: &[u8], substitutes: &[u8]) -> Result<Problem, Refusal> {
         Ok(Problem {
             old: Graph::parse(old)?,
             new: Graph::parse(new)?,
+            substitutes: Substitutes::parse(substitutes)?,
         })
+    }
+
+    /// Of an old vertex and a new one.
+    pub fn labels_agree(&self, row: usize, vertex: usize) -> bool {
+        let (old, new) = (self.old.label(row), self.new.label(vertex));
+        old == new || self.substitutes.list(old, new)
     }
 }

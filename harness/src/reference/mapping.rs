@@ -42,11 +42,11 @@ fn check_row(
     row: usize,
     vertex: usize,
 ) -> Result<(), Refusal> {
-    let Problem { old, new } = problem;
+    let Problem { old, new, .. } = problem;
     if vertex >= new.order() {
         return Err(Refusal::at(Reason::NoNewVertex, row));
     }
-    if old.label(row) != new.label(vertex) {
+    if !problem.labels_agree(row, vertex) {
         return Err(Refusal::at(Reason::LabelsDiffer, row));
     }
     for (earlier, entry) in before.iter().enumerate() {

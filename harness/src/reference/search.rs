@@ -14,8 +14,8 @@ pub struct Node<'a> {
 
 impl<'a> Node<'a> {
     pub fn root(problem: &'a Problem) -> Node<'a> {
-        let Problem { old, new } = problem;
-        let alike = |row| (0..new.order()).filter(move |&v| new.label(v) == old.label(row));
+        let Problem { old, new, .. } = problem;
+        let alike = |row| (0..new.order()).filter(move |&v| problem.labels_agree(row, v));
         Node {
             problem,
             path: Vec::new(),
@@ -60,7 +60,7 @@ impl<'a> Node<'a> {
         let Some(vertex) = choice else {
             return set.to_vec();
         };
-        let Problem { old, new } = self.problem;
+        let Problem { old, new, .. } = self.problem;
         let edge = old.edge(row, later);
         let stays = |&&v: &&usize| v != vertex && new.edge(vertex, v) == edge;
         set.iter().filter(stays).copied().collect()

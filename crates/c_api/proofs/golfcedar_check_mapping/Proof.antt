@@ -36,17 +36,17 @@ of-read-requires c κs = search needs
 enum-known-old-order : tie.Need-enum-known-old-order
 enum-known-old-order c = search needs
 
-slice-aggregate-t29 : tie.Need-slice-aggregate-t29
-slice-aggregate-t29 c = search needs
+slice-aggregate-t30 : tie.Need-slice-aggregate-t30
+slice-aggregate-t30 c = search needs
 
-slice-aggregate-t31 : tie.Need-slice-aggregate-t31
-slice-aggregate-t31 c = search needs
+slice-aggregate-t32 : tie.Need-slice-aggregate-t32
+slice-aggregate-t32 c = search needs
 
-slice-aggregate-t34 : tie.Need-slice-aggregate-t34
-slice-aggregate-t34 c = search needs
+slice-aggregate-t35 : tie.Need-slice-aggregate-t35
+slice-aggregate-t35 c = search needs
 
-slice-aggregate-t36 : tie.Need-slice-aggregate-t36
-slice-aggregate-t36 c = search needs
+slice-aggregate-t37 : tie.Need-slice-aggregate-t37
+slice-aggregate-t37 c = search needs
 
 check-mapping-requires : tie.Need-check-mapping-requires
 check-mapping-requires c κs = search needs
@@ -58,13 +58,13 @@ returns : tie.Need-returns
 returns c =
     let arm = c .before .before in
     let g = at-read (arm .before .before) .read-problem in
-    check-refused _ _ _ _ _ (c .of-read .ensures) (problem-refused _ _ (g .result) _ _ _ _ (g .ensures) _ (arm .refusal .given .1))
+    check-refused _ _ _ _ _ _ (c .of-read .ensures) (problem-refused _ _ (g .result) _ _ _ _ (g .ensures) _ (arm .refusal .given .1))
 
 returns-2 : tie.Need-returns-2
 returns-2 c =
     let arm = at-orders (c .before) in
     let g = at-read (arm .before .before) .read-problem in
-    check-read _ _ _ _ (problem-read _ _ (g .result) _ _ _ _ (g .ensures) _ _ (arm .old-order .given .1))
+    check-read _ _ _ _ _ (problem-read _ _ (g .result) _ _ _ _ (g .ensures) _ _ (arm .old-order .given .1))
     _ _ (c .of-mapping .ensures) (c .before .check-mapping .ensures)
 
 pub golfcedar-check-mapping-spec : {M : Type 1} → statement M
@@ -79,10 +79,10 @@ golfcedar-check-mapping-spec =
     enum-known-refusal
     of-read-requires
     enum-known-old-order
-    slice-aggregate-t29
-    slice-aggregate-t31
-    slice-aggregate-t34
-    slice-aggregate-t36
+    slice-aggregate-t30
+    slice-aggregate-t32
+    slice-aggregate-t35
+    slice-aggregate-t37
     check-mapping-requires
     of-mapping-requires
     returns

@@ -37,20 +37,20 @@ array-share-prefix-entries c = search needs
 slice-aggregate-check-mappings : tie.Need-slice-aggregate-check-mappings
 slice-aggregate-check-mappings c =
     let fill = c .before .before in
-    let start = fill .before .before .before in
+    let start = fill .before .before .before .before in
     let k = start .args .checkpoint in
     let long = filled-length (k .path) (k .depth) (path-long start) in
     sym (length-take-le _ _ (omega (arith, ap length (fill .filled .ensures), long, fill .before .before .rows .ensures .0)))
 
 array-share-prefix-incumbent : tie.Need-array-share-prefix-incumbent
 array-share-prefix-incumbent c =
-    let start = c .before .before .before .before .before in
+    let start = c .before .before .before .before .before .before in
     omega (arith, incumbent-long start, c .before .before .before .before .rows .ensures .0)
 
 slice-aggregate-check-mappings-2 : tie.Need-slice-aggregate-check-mappings-2
 slice-aggregate-check-mappings-2 c =
     let bound = c .before .before .before .before .before in
-    sym (length-take-le _ _ (omega (arith, incumbent-long (bound .before), bound .rows .ensures .0)))
+    sym (length-take-le _ _ (omega (arith, incumbent-long (bound .before .before), bound .rows .ensures .0)))
 
 check-mappings-requires : tie.Need-check-mappings-requires
 check-mappings-requires c κs = search needs
@@ -65,11 +65,11 @@ in-shape-requires : tie.Need-in-shape-requires
 in-shape-requires c κs = search needs
 
 abbrev at-entry : tie.After-in-shape → tie.Start
-at-entry c = c .before .before .before .before .before .before .before .before .before .before .before
+at-entry c = c .before .before .before .before .before .before .before .before .before .before .before .before
 
 -- once the two lists are checked, the tests decide
 decided : (c : tie.After-in-shape)
-    → checkpointAnswer (lent (at-entry c .args .t1) (at-entry c .args .labels) (at-entry c .args .edges)) (at-entry c .args .checkpoint)
+    → checkpointAnswer (lent (at-entry c .args .t1) (at-entry c .args .labels) (at-entry c .args .edges) (at-entry c .args .substitutes .now)) (at-entry c .args .checkpoint)
     ≡ cond (c .in-shape .result) passed (refused 14)
 decided c =
     let told = c .before .before in
@@ -85,7 +85,7 @@ returns c = sym (decided (c .before) ∙ ap (λ (t : Bool). cond t passed (refus
 returns-2 : tie.Need-returns-2
 returns-2 c =
     let call = c .before .before .before in
-    let start = call .before .before .before .before .before .before .before in
+    let start = call .before .before .before .before .before .before .before .before in
     flawed-answer _ (start .args .checkpoint) _ _ _ (sym (ap mappingsOutcome (c .before .flaw .given .1)) ∙ call .check-mappings .ensures)
 
 returns-3 : tie.Need-returns-3

@@ -18,11 +18,11 @@ use Rattle.checkpoint_bytes.proofs.load_checkpoint.Tie as tie
 
 -- the problem that is asked about
 abbrev asked : tie.Start → Problem
-asked s = lent (s .args .t1) (s .args .labels) (s .args .edges)
+asked s = lent (s .args .t1) (s .args .labels) (s .args .edges) (s .args .substitutes .now)
 
 -- the way back from each test to the one before it
 abbrev at-entry : tie.After-enum-told → tie.Start
-at-entry c = c .before .before .before .before
+at-entry c = c .before .before .before .before .before
 
 abbrev at-sound : tie.After-enum-told2 → tie.After-enum-told
 at-sound c = c .before .before .before
@@ -45,7 +45,7 @@ refuse-requires c κs = search needs
 returns : tie.Need-returns
 returns c =
     let check = c .before .before .before .before in
-    let s = check .before .before in
+    let s = check .before .before .before in
     c .refuse .ensures
     ∙ load-flawed (asked s) (s .args .bytes .now) _ (sym (check .check-problem .ensures) ∙ ap problemAnswerOf (c .before .before .flaw .given .1))
 

@@ -15,10 +15,10 @@ use Rattle.checkpoint_bytes.proofs.save_checkpoint.Tie as tie
 
 -- the problem that is asked about
 abbrev asked : tie.Start → Problem
-asked s = lent (s .args .t1) (s .args .labels) (s .args .edges)
+asked s = lent (s .args .t1) (s .args .labels) (s .args .edges) (s .args .substitutes .now)
 
 abbrev at-entry : tie.After-enum-told2 → tie.Start
-at-entry c = c .before .before .before .before
+at-entry c = c .before .before .before .before .before
 
 told-passed : (c : tie.After-enum-told2) → checkpointAnswer (asked (at-entry c)) (at-entry c .args .checkpoint) ≡ passed
 told-passed c = sym (c .before .before .check-checkpoint .ensures) ∙ ap shapeAnswer (c .enum-told2 .given .1)
@@ -43,7 +43,7 @@ save-in-shape-requires c κs =
     let s = at-entry (c .before) in
     let fine = passes-shape (asked s) (s .args .checkpoint) (told-passed (c .before)) in
     let few = fine .0 .old-sound .order-max in
-    let fields = s .good .1 .1 .1 .0 .1 .1 in (
+    let fields = s .good .1 .1 .1 .1 .0 .1 .1 in (
       few,
       omega (arith, few, fine .1 .depth-max),
       simp length-map at (fields .1 .1 .1 .0 .1 .0 .1),

@@ -39,26 +39,26 @@ edges-lent-requires-2 c κs = search needs
 array-share-prefix-old-labels : tie.Need-array-share-prefix-old-labels
 array-share-prefix-old-labels c = search needs
 
-slice-aggregate-t28 : tie.Need-slice-aggregate-t28
-slice-aggregate-t28 c = sym (length-take-le _ _ (search needs))
+slice-aggregate-t29 : tie.Need-slice-aggregate-t29
+slice-aggregate-t29 c = sym (length-take-le _ _ (search needs))
 
 array-share-prefix-new-labels : tie.Need-array-share-prefix-new-labels
 array-share-prefix-new-labels c = search needs
 
-slice-aggregate-t30 : tie.Need-slice-aggregate-t30
-slice-aggregate-t30 c = sym (length-take-le _ _ (search needs))
+slice-aggregate-t31 : tie.Need-slice-aggregate-t31
+slice-aggregate-t31 c = sym (length-take-le _ _ (search needs))
 
 array-share-prefix-old-edges : tie.Need-array-share-prefix-old-edges
 array-share-prefix-old-edges c = search needs
 
-slice-aggregate-t33 : tie.Need-slice-aggregate-t33
-slice-aggregate-t33 c = sym (length-take-le _ _ (search needs))
+slice-aggregate-t34 : tie.Need-slice-aggregate-t34
+slice-aggregate-t34 c = sym (length-take-le _ _ (search needs))
 
 array-share-prefix-new-edges : tie.Need-array-share-prefix-new-edges
 array-share-prefix-new-edges c = search needs
 
-slice-aggregate-t35 : tie.Need-slice-aggregate-t35
-slice-aggregate-t35 c = sym (length-take-le _ _ (search needs))
+slice-aggregate-t36 : tie.Need-slice-aggregate-t36
+slice-aggregate-t36 c = sym (length-take-le _ _ (search needs))
 
 check-mapping-requires : tie.Need-check-mapping-requires
 check-mapping-requires c κs = search needs
@@ -84,13 +84,13 @@ case-spec =
     labels-lent-requires-2
     edges-lent-requires-2
     array-share-prefix-old-labels
-    slice-aggregate-t28
+    slice-aggregate-t29
     array-share-prefix-new-labels
-    slice-aggregate-t30
+    slice-aggregate-t31
     array-share-prefix-old-edges
-    slice-aggregate-t33
+    slice-aggregate-t34
     array-share-prefix-new-edges
-    slice-aggregate-t35
+    slice-aggregate-t36
     check-mapping-requires
     write-line-requires
     returns)

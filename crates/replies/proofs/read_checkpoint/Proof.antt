@@ -1,6 +1,6 @@
 -- `replies::read_checkpoint` meets its contract: what is held fits or is refused, and the ceiling is that of a call that makes no visit
 -- (`CallArms`). Assumes nothing.
-use mathlib.Core.Path.{_≡_}
+use mathlib.Core.Path.{_≡_, sym}
 use Prim.Native.Nat.{_≤_}
 use native.Mathlib.Omega.{arith}
 use lib.ListN.{length, length-map}
@@ -14,15 +14,15 @@ use Rattle.replies.proofs.read_checkpoint.Tie as tie
 
 -- the problem that is asked about
 abbrev asked : tie.Start → Problem
-asked s = lent (s .args .t1) (s .args .labels) (s .args .edges)
+asked s = lent (s .args .t1) (s .args .labels) (s .args .edges) (s .args .substitutes .now)
 
 incumbent-long : (s : tie.Start) → length (s .args .checkpoint .incumbent) ≡ 64
 incumbent-long s =
-    let fields = s .good .1 .1 .1 .0 .1 .1 in
+    let fields = s .good .1 .1 .1 .1 .0 .1 .1 in
     simp length-map at (fields .1 .1 .1 .1 .1 .1 .0 .1 .0 .1)
 
 abbrev at-entry : tie.After-entries-held → tie.Start
-at-entry c = c .before .before
+at-entry c = c .before .before .before
 
 abbrev at-room : tie.After-search → tie.Else1
 at-room c = c .before .before
@@ -52,7 +52,7 @@ search-value-requires : tie.Need-search-value-requires
 search-value-requires c κs = search needs
 
 slice-aggregate-put-entries : tie.Need-slice-aggregate-put-entries
-slice-aggregate-put-entries c = search needs
+slice-aggregate-put-entries c = sym (incumbent-long (at-entry (at-room (c .before .before .before .before) .before)))
 
 put-entries-requires : tie.Need-put-entries-requires
 put-entries-requires c κs =
@@ -66,8 +66,8 @@ put-entries-requires c κs =
 state-byte-requires : tie.Need-state-byte-requires
 state-byte-requires c κs = search needs
 
-cast-t29 : tie.Need-cast-t29
-cast-t29 c = search needs
+cast-t30 : tie.Need-cast-t30
+cast-t30 c = search needs
 
 same-length : tie.Need-same-length
 same-length c = search needs
@@ -96,6 +96,6 @@ read-checkpoint-spec =
     slice-aggregate-put-entries
     put-entries-requires
     state-byte-requires
-    cast-t29
+    cast-t30
     same-length
     returns-2)

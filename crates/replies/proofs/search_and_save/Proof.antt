@@ -9,10 +9,10 @@ use Rattle.replies.proofs.search_and_save.Tie as tie
 
 -- the problem that is asked about
 abbrev asked : tie.Start → Problem
-asked s = lent (s .args .orders) (s .args .labels) (s .args .edges)
+asked s = lent (s .args .orders) (s .args .labels) (s .args .edges) (s .args .substitutes .now)
 
 abbrev at-entry : tie.After-search-apart → tie.Start
-at-entry c = c .before .before .before
+at-entry c = c .before .before .before .before
 
 abbrev at-search : tie.After-advanced → tie.After-search-apart
 at-search c = c .before

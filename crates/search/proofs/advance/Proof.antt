@@ -6,6 +6,7 @@ use lib.ListN.{length, length-map}
 use borrow.Author.Needs.{needs}
 use Rattle.problem.specs.Problem.{Problem}
 use Rattle.problem.specs.Lent.{lent}
+use Rattle.problem.proofs.VertexSets.{agreeing-vertices}
 use Rattle.search_tree.specs.Search.{searchOf}
 use Rattle.checkpoint.specs.Checkpoints.{stateOf}
 use Rattle.search.specs.Call.{visits}
@@ -19,14 +20,17 @@ use Rattle.search.proofs.advance.Tie as tie
 
 -- the problem that is asked about
 abbrev asked : tie.Start → Problem
-asked s = lent (s .args .t1) (s .args .labels) (s .args .t3)
+asked s = lent (s .args .t1) (s .args .t2) (s .args .t3) (s .args .substitutes .now)
 
 -- the way back from each call to the one before it
 abbrev at-entry : tie.After-fill-masks → tie.Start
-at-entry c = c .before .before .before .before .before
+at-entry c = c .before .before .before .before .before .before
+
+abbrev at-agreeing : tie.After-root-words → tie.After-agreeing
+at-agreeing c = c .before .before .before
 
 abbrev at-masks : tie.After-root-words → tie.After-fill-masks
-at-masks c = c .before .before .before
+at-masks c = at-agreeing c .before .before .before .before
 
 abbrev at-root : tie.After-all-later → tie.After-root-words
 at-root c = c .before .before .before
@@ -47,7 +51,7 @@ begin c = at-entry (at-masks (at-root (at-later c)))
 -- what the call starts from; that its arrays have 64 bytes comes with the checkpoint's type
 given : (s : tie.Start) → Accepted (asked s) (s .args .checkpoint)
 given s =
-    let fields = s .good .1 .1 .1 .0 .1 .1 in record {
+    let fields = s .good .1 .1 .1 .1 .0 .1 .1 in record {
       sound = s .pre .0;
       shape = s .pre .1 .0;
       path-long = simp length-map at (fields .1 .1 .1 .0 .1 .0 .1);
@@ -76,15 +80,22 @@ slice-aggregate-fill-masks c = search needs
 
 fill-masks-requires : tie.Need-fill-masks-requires
 fill-masks-requires c κs =
-    let sound = c .before .before .before .before .pre .0 in
+    let sound = c .before .before .before .before .before .pre .0 in
     (sound .new-sound .edges-length, refl, sound .new-sound .order-max)
+
+array-copy-out-agreeing : tie.Need-array-copy-out-agreeing
+array-copy-out-agreeing c = search needs
+
+array-copy-out-agreeing-2 : tie.Need-array-copy-out-agreeing-2
+array-copy-out-agreeing-2 c = search needs
+
+agreeing-requires : tie.Need-agreeing-requires
+agreeing-requires c κs = search needs
 
 root-words-requires : tie.Need-root-words-requires
 root-words-requires c κs =
-    let pre = at-entry (c .before .before) .pre in
-    let old = pre .0 .old-sound in
-    let new = pre .0 .new-sound in
-    ((old .labels-length, new .labels-length), old .order-max, new .order-max, omega (arith, pre .1 .1 .0))
+    let pre = at-entry (c .before .before .before .before .before .before) .pre in
+    (pre .0 .old-sound .order-max, omega (arith, pre .1 .1 .0))
 
 all-later-requires : tie.Need-all-later-requires
 all-later-requires c κs = at-entry (at-masks (c .before .before)) .pre .0 .old-sound .edges-length
@@ -112,7 +123,8 @@ started c =
     let root = at-root (at-later c) in
     let s = begin c in
     c .start .ensures (asked s) (setting (at-masks root)) (s .pre .1 .0)
-    (root-words (asked s) (s .pre .0) (root .root-words .ensures (s .args .t3)) (s .args .checkpoint .path))
+    (root-words (asked s) (s .pre .0)
+    (root .root-words .ensures (asked s) refl (agreeing-vertices (asked s) (s .pre .0) (at-agreeing root .agreeing .ensures))) (s .args .checkpoint .path))
 
 slice-aggregate-run : tie.Need-slice-aggregate-run
 slice-aggregate-run c = sym (at-masks (at-root (at-later (c .before .before .before))) .fill-masks .ensures .words)
@@ -184,6 +196,9 @@ advance-spec =
     array-copy-out-fill-masks
     slice-aggregate-fill-masks
     fill-masks-requires
+    array-copy-out-agreeing
+    array-copy-out-agreeing-2
+    agreeing-requires
     root-words-requires
     all-later-requires
     slice-aggregate-start

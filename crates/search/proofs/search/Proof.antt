@@ -20,11 +20,11 @@ use Rattle.search.proofs.search.Tie as tie
 
 -- the problem that is asked about
 abbrev asked : tie.Start → Problem
-asked s = lent (s .args .orders) (s .args .labels) (s .args .edges)
+asked s = lent (s .args .orders) (s .args .labels) (s .args .edges) (s .args .substitutes .now)
 
 -- the way back from each test to the one before it
 abbrev at-entry : tie.After-enum-told2 → tie.Start
-at-entry c = c .before .before .before .before
+at-entry c = c .before .before .before .before .before
 
 abbrev at-told : tie.Else2 → tie.After-enum-told2
 at-told c = c .before .before .before
@@ -90,7 +90,7 @@ advance-requires c κs =
 returns-3 : tie.Need-returns-3
 returns-3 c =
     let told = c .before .before .before in
-    let s = told .before .before in
+    let s = told .before .before .before in
     let a = s .args in
     call-refused (asked s) (a .checkpoint) (a .budget) (a .workspace .now) _
     (sym (told .check-checkpoint .ensures) ∙ ap shapeAnswer (c .before .flaw .given .1))
@@ -98,7 +98,7 @@ returns-3 c =
 returns-4 : tie.Need-returns-4
 returns-4 c =
     let told = c .before .before in
-    let s = told .before .before in
+    let s = told .before .before .before in
     let a = s .args in
     call-refused (asked s) (a .checkpoint) (a .budget) (a .workspace .now) 14
     (sym (told .check-checkpoint .ensures) ∙ ap shapeAnswer (c .enum-told .given .1))
@@ -113,7 +113,7 @@ returns-5 c =
     let told = at-told count in
     let s = at-entry told in
     let a = s .args in
-    front-advanced (asked s) (a .checkpoint) (a .budget) (a .workspace .now) (calledOf (call .result) (call .last .1 .1 .1 .1 .1 .0))
+    front-advanced (asked s) (a .checkpoint) (a .budget) (a .workspace .now) (calledOf (call .result) (call .last .1 .1 .1 .1 .1 .1 .0))
     (call .ensures)
     ∙ call-accepted (asked s) (a .checkpoint) (a .budget) (a .workspace .now) (told-passed told) (count .before .before .if1 .left) (told-count count)
 

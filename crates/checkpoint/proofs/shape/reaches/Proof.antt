@@ -21,7 +21,7 @@ refused-answer k (MappingAnswer.Flawed f) tag = refl
 refused-answer k MappingAnswer.Length tag = refl
 refused-answer k (MappingAnswer.NoVertex r) tag = refl
 refused-answer k (MappingAnswer.SameImage r e) tag = refl
-refused-answer k (MappingAnswer.LabelsDiffer r) tag = refl
+refused-answer k (MappingAnswer.LabelsDisagree r) tag = refl
 refused-answer k (MappingAnswer.EdgesDiffer r e) tag = refl
 
 returns : tie.Need-returns

@@ -11,7 +11,7 @@ use Rattle.mapping.proofs.rows.first_clash.Statement.{statement}
 use Rattle.mapping.proofs.rows.first_clash.Tie as tie
 
 abbrev Inv-loop : tie.InvT-loop
-Inv-loop edges mapping v row u₀ u = ClearTo (v .0) (clash (lent [] [] edges) mapping (v .0)) u
+Inv-loop edges mapping v row u₀ u = ClearTo (v .0) (clash (lent [] [] edges []) mapping (v .0)) u
 
 abbrev μ-loop : tie.MeasureT-loop
 μ-loop edges mapping v row u₀ u = v .0 - u

@@ -11,27 +11,28 @@ use native.Mathlib.Omega.{arith}
 use lib.Dec.{ltb}
 use lib.ListN.{length, getD}
 use Rattle.bounded.proofs.First.{ClearTo, clear-none, clear-more, clear-all, clear-found}
-use Rattle.problem.specs.Problem.{Problem}
-use Rattle.problem.specs.Lent.{lent}
+use Rattle.problem.specs.Lent.{Tables}
 use Rattle.mapping.specs.Common.{unmapped}
-use Rattle.mapping.specs.Check.{rowFault, finding}
+use Rattle.mapping.specs.Check.{finding}
+use Rattle.mapping.specs.LentRows.{lentRow}
 use Rattle.mapping.proofs.rows.first_fault.Statement.{statement}
 use Rattle.mapping.proofs.rows.first_fault.Tie as tie
 
 -- a clear row that is mapped is mapped to a new vertex
-clear-entry : (P : Problem) (l : List ℕ) (u : ℕ) → rowFault P l u ≡ none → (getD l u 0 ≡ unmapped → ⊥) → getD l u 0 < P .new .order
-unfolding rowFault
-clear-entry P l u e m = go (ltb (getD l u 0) (P .new .order)) refl
+clear-entry : (orders sets : List ℕ) (edges : Tables) (l : List ℕ) (u : ℕ) → lentRow orders sets edges l u ≡ none → (getD l u 0 ≡ unmapped → ⊥)
+    → getD l u 0 < getD orders 1 0
+unfolding lentRow
+clear-entry orders sets edges l u e m = go (ltb (getD l u 0) (getD orders 1 0)) refl
   where
-    go : (b : Bool) → ltb (getD l u 0) (P .new .order) ≡ b → getD l u 0 < P .new .order
+    go : (b : Bool) → ltb (getD l u 0) (getD orders 1 0) ≡ b → getD l u 0 < getD orders 1 0
     go true t = ltb-true _ _ t
     go false t = absurd (Option·some-ne-none _ (simp (ne-eqb (getD l u 0) unmapped m, t) at e))
 
 abbrev Inv-loop : tie.InvT-loop
-Inv-loop orders labels edges mapping v₀ v = ClearTo (length mapping) (rowFault (lent orders labels edges) mapping) v
+Inv-loop orders agreeing edges mapping v₀ v = ClearTo (length mapping) (lentRow orders agreeing edges mapping) v
 
 abbrev μ-loop : tie.MeasureT-loop
-μ-loop orders labels edges mapping v₀ v = length mapping - v
+μ-loop orders agreeing edges mapping v₀ v = length mapping - v
 
 loop-holds : tie.Need-loop-holds Inv-loop μ-loop
 loop-holds c = clear-none _ _
@@ -39,13 +40,13 @@ loop-holds c = clear-none _ _
 row-fault-requires : tie.Need-row-fault-requires Inv-loop μ-loop
 row-fault-requires c κs =
     let s = c .before .before .before in (
-      (s .pre .0, s .pre .1, s .pre .2),
+      (s .pre .0, s .pre .1),
       (
-        s .pre .3,
+        s .pre .2,
         c .loop-test .taken,
         λ u h m.
-            let below = clear-entry _ _ u (c .before .loop .inv .1 u h) m in
-            omega (arith, below, s .pre .2),
+            let below = clear-entry _ _ _ _ u (c .before .loop .inv .1 u h) m in
+            omega (arith, below, s .pre .1),
       ),
     )
 

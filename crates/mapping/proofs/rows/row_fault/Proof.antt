@@ -1,4 +1,4 @@
--- `mapping::rows::row_fault` meets its contract: at each return the tests that led there say what `rowFault` computes to.
+-- `mapping::rows::row_fault` meets its contract: at each return the tests that led there say what `lentRow` computes to.
 -- Assumes nothing.
 use borrow.Author.Needs.{needs}
 use borrow.Author.Tests.{eq-eqb, ne-eqb, lt-ltb, le-ltb, not-true, not-false}
@@ -6,7 +6,7 @@ use mathlib.Core.Path.{sym, _∙_}
 use Prim.Native.Nat.{_<_}
 use native.Mathlib.Omega.{arith}
 use lib.ListN.{getD}
-use Rattle.mapping.specs.Check.{rowFault}
+use Rattle.mapping.specs.LentRows.{lentRow}
 use Rattle.mapping.proofs.rows.row_fault.Statement.{statement}
 use Rattle.mapping.proofs.rows.row_fault.Tie as tie
 
@@ -14,7 +14,7 @@ shared-slice-read-image : tie.Need-shared-slice-read-image
 shared-slice-read-image c = search needs
 
 returns : tie.Need-returns
-unfolding rowFault
+unfolding lentRow
 returns c = simp (eq-eqb _ _ (c .if1 .taken))
 
 cast-w : tie.Need-cast-w
@@ -26,14 +26,14 @@ array-read-if2 : tie.Need-array-read-if2
 array-read-if2 c = search needs
 
 returns-2 : tie.Need-returns-2
-unfolding rowFault
+unfolding lentRow
 returns-2 c = simp (ne-eqb _ _ (c .before .if1 .left), le-ltb _ _ (c .if2 .taken))
 
 compare-vertices-requires : tie.Need-compare-vertices-requires
 compare-vertices-requires c κs = search needs
 
 returns-3 : tie.Need-returns-3
-unfolding rowFault
+unfolding lentRow
 returns-3 c =
     let e = c .before in
     simp (
@@ -45,11 +45,11 @@ returns-3 c =
 first-clash-requires : tie.Need-first-clash-requires
 first-clash-requires c κs =
     let s = c .before .before .before .before .before .before in
-    let below : getD (s .args .mapping .now) (s .args .v .0) 0 < 64 = omega (arith, c .before .before .if2 .left, s .pre .0 .2) in
-    ((s .pre .0 .1, s .pre .1 .0, s .pre .1 .1), (below, s .pre .1 .2))
+    let below : getD (s .args .mapping .now) (s .args .v .0) 0 < 64 = omega (arith, c .before .before .if2 .left, s .pre .0 .1) in
+    ((s .pre .0 .0, s .pre .1 .0, s .pre .1 .1), (below, s .pre .1 .2))
 
 returns-4 : tie.Need-returns-4
-unfolding rowFault
+unfolding lentRow
 returns-4 c =
     let e = c .before .before in
     simp (

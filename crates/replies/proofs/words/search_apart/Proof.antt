@@ -18,11 +18,11 @@ use Rattle.replies.proofs.words.search_apart.Tie as tie
 used-max : (c : tie.Joined1) → c .if1 .used ≤ 4160
 used-max c = ⊎-elim (λ w. omega arith) (λ w. omega arith) (c .if1 .came)
 
-same-test : (c : tie.Joined1) → leb 4160 (c .if1 .used) ≡ leb 4160 (c .before .args .words)
+same-test : (c : tie.Joined1) → leb 4160 (c .if1 .used) ≡ leb 4160 (c .before .before .args .words)
 same-test c =
     ⊎-elim
-    (λ w. let e : c .if1 .used ≡ c .before .args .words = omega arith in rw e)
-    (λ w. le-leb 4160 (c .if1 .used) (omega arith) ∙ sym (le-leb 4160 (c .before .args .words) (omega arith)))
+    (λ w. let e : c .if1 .used ≡ c .before .before .args .words = omega arith in rw e)
+    (λ w. le-leb 4160 (c .if1 .used) (omega arith) ∙ sym (le-leb 4160 (c .before .before .args .words) (omega arith)))
     (c .if1 .came)
 
 abbrev own : List ℕ
@@ -44,8 +44,8 @@ returns : tie.Need-returns
 returns c =
     let call = c .before in
     let join = call .before .before in
-    let a = join .before .args in
-    found-apart (lent (a .orders) (a .labels) (a .edges)) (a .checkpoint) (a .budget) (call .search .result) _ _ (call .search .ensures)
+    let a = join .before .before .args in
+    found-apart (lent (a .orders) (a .labels) (a .edges) (a .substitutes .now)) (a .checkpoint) (a .budget) (call .search .result) _ _ (call .search .ensures)
     _ (ap (leb 4160) (own-length join) ∙ same-test join)
 
 pub search-apart-spec : {M : Type 1} → statement M

@@ -7,26 +7,29 @@ use native.Mathlib.Omega.{arith}
 use lib.ListN.{length, length-set}
 use borrow.Author.Needs.{needs}
 use borrow.Author.Tests.{not-true, not-false}
-use Rattle.problem.specs.Lent.{Tables, lent}
+use Rattle.problem.specs.Problem.{Problem}
+use Rattle.problem.specs.VertexSets.{VertexSets}
+use Rattle.problem.proofs.VertexSets.{vertex-allowed}
 use Rattle.search.proofs.RootTurn.{RootTo, root-none, root-more, root-skip, root-all}
 use Rattle.search.proofs.words.root_words.Statement.{statement}
 use Rattle.search.proofs.words.root_words.Tie as tie
 
 abbrev Inv-loop : tie.InvT-loop
-Inv-loop labels workspace₀ orders order rows₀ r₀ workspace rows r =
-    (r ≤ order) × (length workspace ≡ length workspace₀) × ((edges : Tables) → RootTo (lent orders labels edges) workspace₀ workspace r rows)
+Inv-loop order agreeing workspace₀ rows₀ r₀ workspace rows r =
+    (r ≤ order) × (length workspace ≡ length workspace₀)
+    × ((P : Problem) → P .old .order ≡ order → VertexSets P agreeing → RootTo P workspace₀ workspace r rows)
 
 abbrev μ-loop : tie.MeasureT-loop
-μ-loop labels workspace₀ orders order rows₀ r₀ workspace rows r = order - r
-
-array-read-order : tie.Need-array-read-order Inv-loop μ-loop
-array-read-order c = search needs
+μ-loop order agreeing workspace₀ rows₀ r₀ workspace rows r = order - r
 
 loop-holds : tie.Need-loop-holds Inv-loop μ-loop
-loop-holds c = let a = c .before .args in (search needs, refl, λ edges. root-none (lent (a .t1) (a .labels) edges) (a .workspace .now))
+loop-holds c = (search needs, refl, λ P e s. root-none P (c .before .args .workspace .now))
 
-allowed-word-requires : tie.Need-allowed-word-requires Inv-loop μ-loop
-allowed-word-requires c κs = search needs
+mul-word : tie.Need-mul-word Inv-loop μ-loop
+mul-word c = search needs
+
+element-copy-out-word : tie.Need-element-copy-out-word Inv-loop μ-loop
+element-copy-out-word c = search needs
 
 mul-workspace : tie.Need-mul-workspace Inv-loop μ-loop
 mul-workspace c = search needs
@@ -49,14 +52,17 @@ loop-less c = search needs
 loop-again : tie.Need-loop-again Inv-loop μ-loop
 loop-again c =
     let l = c .before .before .before .before .loop in
-    let a = c .before .before .before .before .before .before .args in
-    let word = c .before .before .allowed-word .ensures in
+    let ws = c .before .before .before .before .before .before .args .workspace .now in
     let tested = c .before .is-empty .ensures in (
       omega arith,
       simp length-set (l .inv .1),
       ⊎-elim
-          (λ w edges. rw (w .2, w .1 .ensures) (root-more (lent (a .t1) (a .labels) edges) (a .workspace .now) (l .inv .2 edges) (omega arith) (omega arith) (word edges) (sym tested ∙ not-true _ (w .0 .taken))))
-          (λ w edges. rw (w .1) (root-skip (lent (a .t1) (a .labels) edges) (a .workspace .now) (l .inv .2 edges) (omega arith) (omega arith) (word edges) (sym tested ∙ not-false _ (w .0 .left))))
+          (λ w P e s.
+          rw (w .2, w .1 .ensures)
+          (root-more P ws (l .inv .2 P e s) (omega arith) (omega arith) (vertex-allowed P s (l .r) (omega arith)) (sym tested ∙ not-true _ (w .0 .taken))))
+          (λ w P e s.
+          rw (w .1)
+          (root-skip P ws (l .inv .2 P e s) (omega arith) (omega arith) (vertex-allowed P s (l .r) (omega arith)) (sym tested ∙ not-false _ (w .0 .left))))
           (c .if1 .came),
     )
 
@@ -67,10 +73,9 @@ same-length : tie.Need-same-length Inv-loop μ-loop
 same-length c = search needs
 
 returns : tie.Need-returns Inv-loop μ-loop
-returns c edges =
+returns c P e s =
     let l = c .before .loop in
-    let a = c .before .before .before .args in
-    root-all (lent (a .t1) (a .labels) edges) (a .workspace .now) (omega arith) (omega arith) (omega arith) (l .inv .2 edges)
+    root-all P (c .before .before .before .args .workspace .now) (omega arith) (omega arith) (omega arith) (l .inv .2 P e s)
 
 pub root-words-spec : {M : Type 1} → statement M
 root-words-spec =
@@ -78,9 +83,9 @@ root-words-spec =
     (tie.spec
     Inv-loop
     μ-loop
-    array-read-order
     loop-holds
-    allowed-word-requires
+    mul-word
+    element-copy-out-word
     mul-workspace
     slice-write-workspace
     is-empty-requires

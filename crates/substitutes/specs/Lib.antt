@@ -1,0 +1,4 @@
+pub mod Substitutes
+pub mod Soundness
+pub mod Agreeing
+pub mod Answers
