@@ -86,6 +86,22 @@ module _ {s : ℕ} {word : ℕ → ℕ} {level : ℕ} {ws : List ℕ} {rows₀ l
     fewer r h e =
         t .within r h (and-eq-true-iff (not (eqb r m)) (member rest r) .0 (sym (member-without-least rest m r found h) ∙ e) .1)
 
+    -- Whatever is stored for a row that is left, all else stays.
+    pub met-stored : {at : ℕ} (v : ℕ) → at ≡ 64 * level + m → MetTo s word level ws rows₀ left₀ (set ws′ at v) rest rows left
+    met-stored {at} v place = record {
+      small = t .small;
+      within = t .within;
+      words = length-set ws′ at v ∙ t .words;
+      others = λ i far. getD-set-other ws′ at i v 0 (λ e. far m (next-row .0) (next-row .1) (e ∙ place)) ∙ t .others i far;
+      filled = λ r h e kept. getD-set-other ws′ at (64 * level + r) v 0 (λ q. other r e (omega arith)) ∙ t .filled r h e kept;
+      gathered = t .gathered;
+      counted = t .counted;
+      enough = t .enough;
+    }
+      where
+        other : (r : ℕ) → rowsDone s rest r ≡ true → r ≢ m
+        other r e q = true≢false (sym e ∙ rw q new)
+
     -- A word that is not empty is stored, and its row gathered;
     pub met-more : {at v : ℕ} → at ≡ 64 * level + m → at < length ws → v ≡ word m → eqb v 0 ≡ false
         → MetTo s word level ws rows₀ left₀ (set ws′ at v) (withoutLeast rest) (insert rows m) left

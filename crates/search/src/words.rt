@@ -149,20 +149,19 @@ pub fn meet_near(
         match bitset::least_member(rest) {
             Least::Member(r) => {
                 let label = edges[MAX_ORDER * from + r] as usize;
-                let word = bitset::meet(
-                    workspace[MAX_ORDER * pairs + r],
-                    masks[EDGE_LABELS * value.0 + label],
-                );
+                let at = MAX_ORDER * pairs + r;
+                let word = bitset::meet(workspace[at], masks[EDGE_LABELS * value.0 + label]);
+                // an empty word is stored too, since a jump that is hard to foresee costs more
+                workspace[at + MAX_ORDER] = word;
+                rest = bitset::without_least(rest);
                 if bitset::is_empty(word) {
                     left -= 1;
-                    if left < need {
-                        return Kept { rows, count: left };
-                    }
                 } else {
                     rows = bitset::with(rows, r);
-                    workspace[MAX_ORDER * pairs + MAX_ORDER + r] = word;
                 }
-                rest = bitset::without_least(rest);
+                if left < need {
+                    return Kept { rows, count: left };
+                }
             }
             Least::Empty => {
                 return Kept { rows, count: left };
@@ -189,7 +188,8 @@ pub fn meet_far(
     loop {
         match bitset::least_member(rest) {
             Least::Member(r) => {
-                let word = bitset::meet(workspace[MAX_ORDER * pairs + r], mask);
+                let at = MAX_ORDER * pairs + r;
+                let word = bitset::meet(workspace[at], mask);
                 if bitset::is_empty(word) {
                     left -= 1;
                     if left < need {
@@ -197,7 +197,7 @@ pub fn meet_far(
                     }
                 } else {
                     rows = bitset::with(rows, r);
-                    workspace[MAX_ORDER * pairs + MAX_ORDER + r] = word;
+                    workspace[at + MAX_ORDER] = word;
                 }
                 rest = bitset::without_least(rest);
             }

@@ -53,14 +53,14 @@ least-member-requires c κs = search needs
 enum-known-r : tie.Need-enum-known-r Inv-loop μ-loop
 enum-known-r c = search needs
 
+mul-at : tie.Need-mul-at Inv-loop μ-loop
+mul-at c = search needs
+
+add-at : tie.Need-add-at Inv-loop μ-loop
+add-at c = omega (arith, inside c)
+
 mul-meet : tie.Need-mul-meet Inv-loop μ-loop
-mul-meet c = search needs
-
-add-meet : tie.Need-add-meet Inv-loop μ-loop
-add-meet c = omega (arith, inside c)
-
-mul-meet-2 : tie.Need-mul-meet-2 Inv-loop μ-loop
-mul-meet-2 c = omega (arith, inside c)
+mul-meet c = omega (arith, inside c)
 
 slice-read-meet : tie.Need-slice-read-meet Inv-loop μ-loop
 slice-read-meet c = omega (arith, inside (c .before))
@@ -86,17 +86,11 @@ returns c =
 with-requires : tie.Need-with-requires Inv-loop μ-loop
 with-requires c κs = search needs
 
-mul-workspace : tie.Need-mul-workspace Inv-loop μ-loop
-mul-workspace c = search needs
-
 add-workspace : tie.Need-add-workspace Inv-loop μ-loop
-add-workspace c = search needs
+add-workspace c = omega (arith, inside (c .before .before .before .before .before))
 
-add-workspace-2 : tie.Need-add-workspace-2 Inv-loop μ-loop
-add-workspace-2 c = omega (arith, inside (c .before .before .before .before .before))
-
-mul-workspace-2 : tie.Need-mul-workspace-2 Inv-loop μ-loop
-mul-workspace-2 c = omega (arith, inside (c .before .before .before .before .before))
+mul-workspace : tie.Need-mul-workspace Inv-loop μ-loop
+mul-workspace c = omega (arith, inside (c .before .before .before .before .before))
 
 slice-write-workspace : tie.Need-slice-write-workspace Inv-loop μ-loop
 slice-write-workspace c = omega (arith, inside (c .before .before .before .before .before))
@@ -140,9 +134,9 @@ meet-far-spec =
     loop-holds
     least-member-requires
     enum-known-r
+    mul-at
+    add-at
     mul-meet
-    add-meet
-    mul-meet-2
     slice-read-meet
     meet-requires
     is-empty-requires
@@ -150,10 +144,8 @@ meet-far-spec =
     same-length
     returns
     with-requires
-    mul-workspace
     add-workspace
-    add-workspace-2
-    mul-workspace-2
+    mul-workspace
     slice-write-workspace
     without-least-requires
     loop-less

@@ -4,14 +4,14 @@ use mathlib.Core.Path.{_≡_, ap, sym, _∙_}
 use mathlib.Core.Logic.{⊎-elim}
 use Prim.Native.Nat.{ℕ, _+_, _*_, _<_}
 use native.Mathlib.Omega.{arith}
-use lib.ListN.{getD}
+use lib.ListN.{getD, set}
 use borrow.Author.Needs.{needs}
 use Rattle.bitset.specs.Members.{meetOf}
 use Rattle.bitset.specs.Least.{leastMember}
 use Rattle.bitset.specs.declared.Least.the-variants.{Member}
 use Rattle.graph.specs.Graph.{place}
 use Rattle.search.specs.Words.{nearWord}
-use Rattle.search.proofs.MeetTurn.{MetTo, met-none, next-row, left-falls, not-none, met-more, met-lost, met-few, met-all}
+use Rattle.search.proofs.MeetTurn.{MetTo, met-none, next-row, left-falls, not-none, met-stored, met-more, met-lost, met-few, met-all}
 use Rattle.search.proofs.words.meet_near.Statement.{statement}
 use Rattle.search.proofs.words.meet_near.Tie as tie
 
@@ -56,6 +56,27 @@ word-is c =
     c .meet .ensures
     ∙ ap (λ (s : ℕ). meetOf s mask) (head told .loop .inv .others (64 * a .pairs + r) (λ m h own e. omega (arith, inside told)))
 
+-- the row is met, and its word stored
+turned : (c : tie.Joined1 Inv-loop μ-loop)
+    → (let met = c .before .before .before in
+    let told = met .before .before .before .before .before in
+    let a = entry told .args in
+    MetTo (a .near) (nearWord (a .edges .now) (a .masks .now) (a .row .0) (a .pairs) (a .value .0) (a .workspace .now)) (a .pairs + 1) (a .workspace .now)
+    (a .kept .rows) (a .kept .count)
+    (set (head told .loop .workspace) (64 * a .pairs + told .before .r .given .0 .0 + 64) (met .meet .result))
+    (c .before .before .without-least .result) (c .if1 .rows) (c .if1 .left))
+turned c =
+    let met = c .before .before .before in
+    let told = met .before .before .before .before .before in
+    let inv = head told .loop .inv in
+    let tested = c .before .is-empty .ensures in
+    rw (c .before .before .without-least .ensures)
+    (⊎-elim
+    (λ w. rw (w .1, w .2)
+    (met-lost (met-stored inv (found told) (met .meet .result) (omega arith)) (found told) (word-is met) (sym tested ∙ w .0 .taken)))
+    (λ w. rw (w .2, w .3, w .1 .ensures) (met-more inv (found told) (omega arith) (omega (arith, inside told)) (word-is met) (sym tested ∙ w .0 .left)))
+    (c .if1 .came))
+
 loop-holds : tie.Need-loop-holds Inv-loop μ-loop
 loop-holds c = met-none (omega (arith, c .before .before .before .fits)) (c .before .before .before .pre .1 .3)
 
@@ -77,26 +98,26 @@ shared-slice-read-label c = omega (arith, inside (c .before))
 cast-label : tie.Need-cast-label Inv-loop μ-loop
 cast-label c = omega (arith, label-byte c)
 
+mul-at : tie.Need-mul-at Inv-loop μ-loop
+mul-at c = search needs
+
+add-at : tie.Need-add-at Inv-loop μ-loop
+add-at c = omega (arith, inside (c .before))
+
 mul-meet : tie.Need-mul-meet Inv-loop μ-loop
-mul-meet c = search needs
-
-add-meet : tie.Need-add-meet Inv-loop μ-loop
-add-meet c = omega (arith, inside (c .before))
-
-mul-meet-2 : tie.Need-mul-meet-2 Inv-loop μ-loop
-mul-meet-2 c = omega (arith, inside (c .before))
+mul-meet c = omega (arith, inside (c .before))
 
 slice-read-meet : tie.Need-slice-read-meet Inv-loop μ-loop
 slice-read-meet c = omega (arith, inside (c .before .before))
 
+mul-meet-2 : tie.Need-mul-meet-2 Inv-loop μ-loop
+mul-meet-2 c = search needs
+
+add-meet : tie.Need-add-meet Inv-loop μ-loop
+add-meet c = omega (arith, label-byte (c .before .before))
+
 mul-meet-3 : tie.Need-mul-meet-3 Inv-loop μ-loop
-mul-meet-3 c = search needs
-
-add-meet-2 : tie.Need-add-meet-2 Inv-loop μ-loop
-add-meet-2 c = omega (arith, label-byte (c .before .before))
-
-mul-meet-4 : tie.Need-mul-meet-4 Inv-loop μ-loop
-mul-meet-4 c = omega (arith, label-byte (c .before .before))
+mul-meet-3 c = omega (arith, label-byte (c .before .before))
 
 shared-slice-read-meet : tie.Need-shared-slice-read-meet Inv-loop μ-loop
 shared-slice-read-meet c = omega (arith, label-byte (c .before .before .before))
@@ -104,58 +125,43 @@ shared-slice-read-meet c = omega (arith, label-byte (c .before .before .before))
 meet-requires : tie.Need-meet-requires Inv-loop μ-loop
 meet-requires c κs = search needs
 
-is-empty-requires : tie.Need-is-empty-requires Inv-loop μ-loop
-is-empty-requires c κs = search needs
-
-sub-left : tie.Need-sub-left Inv-loop μ-loop
-sub-left c = let told = c .before .before .before .before .before .before .before in omega (arith, not-none (head told .loop .inv) (found told))
-
-same-length : tie.Need-same-length Inv-loop μ-loop
-same-length c = head (c .before .before .before .before .before .before .before .before) .loop .inv .words
-
-returns : tie.Need-returns Inv-loop μ-loop
-returns c =
-    let met = c .before .before .before in
-    let told = met .before .before .before .before .before in
-    met-few (met-lost (head told .loop .inv) (found told) (word-is met) (sym (c .before .before .is-empty .ensures) ∙ c .before .if1 .taken)) (c .if2 .taken)
-
-with-requires : tie.Need-with-requires Inv-loop μ-loop
-with-requires c κs = search needs
+add-workspace : tie.Need-add-workspace Inv-loop μ-loop
+add-workspace c = omega (arith, inside (c .before .before .before .before .before))
 
 mul-workspace : tie.Need-mul-workspace Inv-loop μ-loop
-mul-workspace c = search needs
-
-add-workspace : tie.Need-add-workspace Inv-loop μ-loop
-add-workspace c = search needs
-
-add-workspace-2 : tie.Need-add-workspace-2 Inv-loop μ-loop
-add-workspace-2 c = omega (arith, inside (c .before .before .before .before .before .before .before .before))
-
-mul-workspace-2 : tie.Need-mul-workspace-2 Inv-loop μ-loop
-mul-workspace-2 c = omega (arith, inside (c .before .before .before .before .before .before .before .before))
+mul-workspace c = omega (arith, inside (c .before .before .before .before .before))
 
 slice-write-workspace : tie.Need-slice-write-workspace Inv-loop μ-loop
-slice-write-workspace c = omega (arith, inside (c .before .before .before .before .before .before .before .before))
+slice-write-workspace c = omega (arith, inside (c .before .before .before .before .before))
 
 without-least-requires : tie.Need-without-least-requires Inv-loop μ-loop
 without-least-requires c κs = search needs
 
+is-empty-requires : tie.Need-is-empty-requires Inv-loop μ-loop
+is-empty-requires c κs = search needs
+
+sub-left : tie.Need-sub-left Inv-loop μ-loop
+sub-left c =
+    let told = c .before .before .before .before .before .before .before .before in
+    omega (arith, not-none (head told .loop .inv) (found told))
+
+with-requires : tie.Need-with-requires Inv-loop μ-loop
+with-requires c κs = search needs
+
+same-length : tie.Need-same-length Inv-loop μ-loop
+same-length c = turned (c .before) .words
+
+returns : tie.Need-returns Inv-loop μ-loop
+returns c = met-few (turned (c .before)) (c .if2 .taken)
+
 loop-less : tie.Need-loop-less Inv-loop μ-loop
 loop-less c =
-    let told = c .before .before .before .before .before .before .before .before in
-    rw (c .without-least .ensures) (left-falls (head told .loop .inv) (found told))
+    let left = c .before .before .before in
+    let told = left .before .before .before .before .before .before in
+    rw (left .without-least .ensures) (left-falls (head told .loop .inv) (found told))
 
 loop-again : tie.Need-loop-again Inv-loop μ-loop
-loop-again c =
-    let met = c .before .before .before in
-    let told = met .before .before .before .before .before in
-    let inv = head told .loop .inv in
-    let tested = c .before .before .is-empty .ensures in
-    rw (c .without-least .ensures)
-    (⊎-elim
-    (λ w. rw (w .2, w .3, w .4) (met-lost inv (found told) (word-is met) (sym tested ∙ w .0 .taken)))
-    (λ w. rw (w .2, w .3, w .4, w .1 .ensures) (met-more inv (found told) (omega arith) (omega (arith, inside told)) (word-is met) (sym tested ∙ w .0 .left)))
-    (c .before .if1 .came))
+loop-again c = turned (c .before)
 
 enum-told : tie.Need-enum-told Inv-loop μ-loop
 enum-told c = search needs
@@ -180,26 +186,24 @@ meet-near-spec =
     add-label
     shared-slice-read-label
     cast-label
+    mul-at
+    add-at
     mul-meet
-    add-meet
-    mul-meet-2
     slice-read-meet
+    mul-meet-2
+    add-meet
     mul-meet-3
-    add-meet-2
-    mul-meet-4
     shared-slice-read-meet
     meet-requires
-    is-empty-requires
-    sub-left
-    same-length
-    returns
-    with-requires
-    mul-workspace
     add-workspace
-    add-workspace-2
-    mul-workspace-2
+    mul-workspace
     slice-write-workspace
     without-least-requires
+    is-empty-requires
+    sub-left
+    with-requires
+    same-length
+    returns
     loop-less
     loop-again
     enum-told
