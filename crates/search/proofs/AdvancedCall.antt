@@ -1,7 +1,8 @@
 -- An accepted call: the words of the checkpoint's path are rebuilt, the visits are made, and the ceiling there is returned.
 use mathlib.Core.Path.{_≡_, refl, sym, ap, ap₂, _∙_}
+use mathlib.Core.Logic.{_⊎_, ⊎-elim}
 use mathlib.Core.List.{List, [], _++_}
-use Prim.Native.Nat.{ℕ, _-_, _≤_}
+use Prim.Native.Nat.{ℕ, _+_, _≤_, _<_}
 use native.Mathlib.Omega.{arith}
 use lib.ListN.{length, take, drop, replicate, drop-of-length-le}
 use Rattle.answers.specs.Answer.{accepted}
@@ -11,15 +12,18 @@ use Rattle.mapping.specs.Common.{size}
 use Rattle.search_tree.specs.Rules.{rulesOf}
 use Rattle.search_tree.specs.Search.{searchOf}
 use Rattle.search_tree.specs.Trees.{Reached}
+use Rattle.search_tree.specs.Walk.{cutoff}
 use Rattle.search_tree.specs.Ceiling.{ceiling}
 use Rattle.search.specs.declared.walk.Walk.{Walk}
 use Rattle.checkpoint.specs.declared.Checkpoint.{Checkpoint}
 use Rattle.checkpoint.specs.Checkpoints.{stateOf, InShape}
 use Rattle.search.specs.Call.{Called, visits, advance}
-use Rattle.search.specs.Words.{Masks, Later, Words}
-use Rattle.search.specs.Walking.{Setting, AtNode, InBounds, Ready, Arrives}
+use Rattle.search.specs.Words.{Masks, Later, openRows, Words}
+use Rattle.search.specs.Walking.{Setting, AtNode, InBounds, Ready, Arrives, Starts}
+use Rattle.search.proofs.NodeWords.{openRows-max, size-take-max, node-bound, node-full, node-bounded}
 use Rattle.search.proofs.ReachedBounds.{reached-in-bounds}
 use Rattle.search.proofs.RunTurn.{arrived-minimum, arrived-state}
+use Rattle.search.proofs.WordLevels.{words-shorter}
 use Rattle.checkpoint.proofs.StateShape.{state-in-shape}
 
 -- words of which none is past the cleared ones are all cleared
@@ -50,17 +54,41 @@ module _ {P : Problem} {c : Checkpoint} (call : Accepted P c) where
   call-bounds filled later-are room =
       reached-in-bounds (c .path) (c .depth) (call-setting filled) later-are shape-reached (call .shape .depth-max) (call .path-long) room
 
-  -- Once the words of its ancestors are there, the checkpoint is at a node.
-  pub call-node : {ws : List ℕ} → 4160 ≤ length ws → Words P (c .path) (c .depth - 1) ws
-      → AtNode P (c .path) (c .depth) (size (take (c .depth) (c .path))) ws
-  call-node room words = record {
+  -- Once the words of its path are there, the checkpoint is at a node,
+  call-node : {ws : List ℕ} {pairs : ℕ} → 4160 ≤ length ws → pairs ≡ size (take (c .depth) (c .path)) → Words P (c .path) (c .depth) ws
+      → AtNode P (c .path) (c .depth) pairs ws
+  call-node room counted words = record {
     path-length = call .path-long;
     room = room;
     reached = shape-reached;
     depth-max = call .shape .depth-max;
-    pairs-are = refl;
-    words = words;
+    pairs-are = counted;
+    words = words-shorter (omega arith) words;
   }
+
+  -- and the rows that have a candidate give its upper bound, so that a walk can start there.
+  pub call-starts : {n : ℕ} {edges masks ws : List ℕ} {pairs number bound : ℕ} → Setting P n edges masks → 4160 ≤ length ws
+      → pairs ≡ size (take (c .depth) (c .path)) → Words P (c .path) (c .depth) ws → number ≡ cutoff (c .minimum) (stateOf (P .old .order) c .incumbent)
+      → ((pairs < 64) × (bound ≡ pairs + openRows (c .depth) pairs ws)) ⊎ ((64 ≤ pairs) × (bound ≡ pairs))
+      → Starts P c (record { checkpoint = c; pairs = pairs; cutoff = number; bound = bound }) ws
+  call-starts {ws = ws} {pairs = pairs} {bound = bound} setting room counted words number-is bound-is = record {
+    checkpoint-is = refl;
+    ready = record {
+      shape = call .shape;
+      incumbent-length = call .incumbent-long;
+      node = node;
+      cutoff-is = number-is;
+      bounded = node-bounded setting node (⊎-elim (λ w. w .1 ∙ node-bound setting node (w .0) words) (λ w. w .1 ∙ node-full setting node (w .0)) bound-is) words;
+      small =
+          let few = size-take-max (c .path) (c .depth) in
+          let max = call .sound .old-sound .order-max in
+          let deep = call .shape .depth-max in
+          ⊎-elim (λ w. omega (arith, openRows-max (c .depth) pairs ws)) (λ w. omega arith) bound-is;
+    };
+  }
+    where
+      node : AtNode P (c .path) (c .depth) pairs ws
+      node = call-node room counted words
 
   -- The checkpoint that the visits leave, the ceiling there and the cleared workspace are what an accepted call gives.
   pub call-arrives : {edges masks ws ws′ : List ℕ} {w end : Walk} (budget top : ℕ) (lent before : List ℕ) {cleared : List ℕ}

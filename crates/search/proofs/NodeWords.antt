@@ -9,6 +9,7 @@ use native.Mathlib.Omega.{arith}
 use lib.Dec.{leb, ltb, eqb}
 use lib.ListN.{length, getD, take, length-take}
 use lib.Seq.{getD-take}
+use borrow.Author.Tests.{le-leb}
 use Rattle.bitset.specs.Members.{member}
 use Rattle.bitset.proofs.CountBelow.{countBelow-le}
 use Rattle.problem.specs.Problem.{Problem}
@@ -17,6 +18,7 @@ use Rattle.mapping.proofs.Size.{size-max, counted-mapped}
 use Rattle.search_tree.specs.Rules.{rulesOf}
 use Rattle.search_tree.specs.Node.{upperBound, extend}
 use Rattle.search_tree.specs.Trees.{Reached}
+use Rattle.search_tree.proofs.BoundFalls.{bound-last}
 use Rattle.search_tree.proofs.Candidates.{candidate-value}
 use Rattle.search.specs.Words.{openSet, metWord, Refined, openRows, meetRows, Counted, Words}
 use Rattle.search.specs.Walking.{Setting, AtNode, InBounds, Bounded}
@@ -90,6 +92,14 @@ module _ {P : Problem} {n : ℕ} {edges masks path ws : List ℕ} {depth pairs :
   node-bound few words =
       let max = setting .sound .old-sound .order-max in
       rw (node .pairs-are) (sym (prefix-bound P (setting .sound) (omega (arith, node .depth-max, node .path-length)) words (omega (arith, node .pairs-are))))
+
+  -- With 64 pairs no row is undecided.
+  pub node-full : 64 ≤ pairs → pairs ≡ upperBound (rulesOf P) (take depth path)
+  node-full full =
+      let q = take depth path in
+      let max = setting .sound .old-sound .order-max in
+      let last : P .old .order ≤ length q = omega (arith, node .pairs-are, size-max q) in
+      node .pairs-are ∙ sym (bound-last (rulesOf P) q (le-leb (P .old .order) (length q) last))
 
   -- The root's words are those of its ancestors: it has none.
   pub node-root : depth ≡ 0 → Words P path depth ws

@@ -1,7 +1,7 @@
--- The loop that rebuilds the words of a path's ancestors, a row a turn.
+-- The loop that rebuilds the words of a path, a row a turn.
 use mathlib.Core.Path.{_≡_, refl, _∙_}
 use mathlib.Core.List.{List}
-use Prim.Native.Nat.{ℕ, _+_, _-_, _≤_, _<_}
+use Prim.Native.Nat.{ℕ, _+_, _≤_, _<_}
 use native.Mathlib.Omega.{arith}
 use lib.ListN.{length, getD, take}
 use Rattle.problem.specs.Problem.{Problem}
@@ -50,8 +50,8 @@ module _ {edges masks path : List ℕ} {depth : ℕ} {ws : List ℕ} where
         (s .words P setting deep reached root);
   }
 
-  -- At the end the words of all ancestors are there.
-  pub rebuilt-all : {ws′ : List ℕ} {row pairs : ℕ} → depth ≤ row + 1 → RebuiltTo edges masks path depth ws ws′ row pairs
+  -- At the end the words of the whole path are there.
+  pub rebuilt-all : {ws′ : List ℕ} {row pairs : ℕ} → depth ≤ row → RebuiltTo edges masks path depth ws ws′ row pairs
       → (P : Problem) → Setting P (P .old .order) edges masks → depth ≤ P .old .order → Reached (rulesOf P) (take depth path) → Words P path 0 ws
-      → Words P path (depth - 1) ws′
+      → Words P path depth ws′
   rebuilt-all h s P setting deep reached root = words-shorter (omega arith) (s .words P setting deep reached root)

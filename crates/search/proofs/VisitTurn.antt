@@ -18,7 +18,7 @@ use Rattle.search.specs.declared.walk.Place.{Place}
 use Rattle.search.specs.declared.walk.Walk.{Walk}
 use Rattle.checkpoint.specs.Checkpoints.{checkpointOf, stateOf, InShape}
 use Rattle.search.specs.Words.{Later, Words}
-use Rattle.search.specs.Walking.{Setting, AtNode, InBounds, Ready, Arrives, Bounded, RestZero, Descends, Retreats}
+use Rattle.search.specs.Walking.{Setting, AtNode, InBounds, Ready, Arrives, Bounded, RestZero, Descends, Retreats, Resumes}
 use Rattle.checkpoint.proofs.CheckpointState.{checkpoint-tidy}
 use Rattle.search.proofs.ReadyWalk.{own-order, node-length}
 use Rattle.search.proofs.ReachedBounds.{reached-in-bounds}
@@ -289,3 +289,45 @@ module _ {n : ℕ} {edges masks ws ws′ path′ : List ℕ} {r : Place} {cutoff
       let below : w .checkpoint .depth < P .old .order = omega (arith, inner, ready .node .depth-max, setting .order-is) in
       let next = down P (setting .sound) below (ready .node) (ready .bounded .high high .1) in
       step-down setting ready busy high below next (rw given at (bound-made setting (next .node)))
+
+-- The move of one visit: a node below the cutoff is left, a last node that reaches it is held and left, and after another comes its first child.
+pub data Moves (n : ℕ) (w : Walk) (ws : List ℕ) : Bool → List ℕ → ℕ → List ℕ → Place → Type 0 where
+  left : {path′ : List ℕ} {r : Place} → w .bound < w .cutoff
+      → ((P : Problem) → SoundProblem P → AtNode P (w .checkpoint .path) (w .checkpoint .depth) (w .pairs) ws
+      → Retreats P (w .checkpoint .path) (w .checkpoint .depth) ws r path′)
+      → Moves n w ws (w .checkpoint .holds) (w .checkpoint .incumbent) (w .cutoff) path′ r
+  held : {path′ : List ℕ} {r : Place} → w .cutoff ≤ w .bound → w .checkpoint .depth ≡ n
+      → ((P : Problem) → SoundProblem P → AtNode P (w .checkpoint .path) (w .checkpoint .depth) (w .pairs) ws
+      → Retreats P (w .checkpoint .path) (w .checkpoint .depth) ws r path′)
+      → Moves n w ws true (w .checkpoint .path) (w .pairs + 1) path′ r
+  down : {path′ : List ℕ} {r : Place} → w .cutoff ≤ w .bound → (w .checkpoint .depth ≡ n → ⊥)
+      → ((P : Problem) → SoundProblem P → w .checkpoint .depth < P .old .order
+      → AtNode P (w .checkpoint .path) (w .checkpoint .depth) (w .pairs) ws
+      → Words P (w .checkpoint .path) (w .checkpoint .depth) ws → Descends P (w .checkpoint .path) (w .checkpoint .depth) ws r path′)
+      → Moves n w ws (w .checkpoint .holds) (w .checkpoint .incumbent) (w .cutoff) path′ r
+
+-- The place that the walk moves to is in bounds.
+pub moved-in-bounds : {n : ℕ} {edges masks later ws incumbent′ path′ : List ℕ} {w : Walk} {holds′ : Bool} {cutoff′ : ℕ} {r : Place}
+    → Resumes n edges masks later w ws → Moves n w ws holds′ incumbent′ cutoff′ path′ r
+    → InBounds edges masks later path′ (r .depth) (r .pairs) ws
+moved-in-bounds resumes (left low back) =
+    node-in-bounds (resumes .setting) (back (resumes .problem) (resumes .setting .sound) (resumes .ready .node) .node) (resumes .later-are)
+moved-in-bounds resumes (held high last back) =
+    node-in-bounds (resumes .setting) (back (resumes .problem) (resumes .setting .sound) (resumes .ready .node) .node) (resumes .later-are)
+moved-in-bounds {w = w} resumes (down high inner first) =
+    let ready = resumes .ready in
+    let below : w .checkpoint .depth < resumes .problem .old .order = omega (arith, inner, ready .node .depth-max, resumes .setting .order-is) in
+    node-in-bounds (resumes .setting) (first (resumes .problem) (resumes .setting .sound) below (ready .node) (ready .bounded .high high .1) .node)
+    (resumes .later-are)
+
+-- Once the bound is made there, one visit is made.
+pub visits-moved : {n : ℕ} {edges masks ws ws′ incumbent′ path′ : List ℕ} {holds′ : Bool} {cutoff′ bound′ : ℕ} {r : Place} (w : Walk)
+    → w .checkpoint .finished ≡ false → length ws′ ≡ length ws
+    → ((P : Problem) → Setting P (P .old .order) edges masks → AtNode P path′ (r .depth) (r .pairs) ws
+    → Bounded P path′ (r .depth) cutoff′ ws′ bound′) × (bound′ < 2 ^ 64 - 1)
+    → Moves n w ws holds′ incumbent′ cutoff′ path′ r
+    → Visits n edges masks w ws
+    (record { checkpoint = stepped (w .checkpoint) r path′ holds′ incumbent′; pairs = r .pairs; cutoff = cutoff′; bound = bound′ }) ws′
+visits-moved w busy same bounded (left low back) = visits-left w busy same bounded refl low back
+visits-moved w busy same bounded (held high last back) = visits-held w busy same bounded refl high last back
+visits-moved w busy same bounded (down high inner first) = visits-down w busy same bounded refl high inner first

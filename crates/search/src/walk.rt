@@ -172,68 +172,26 @@ impl Walk {
         let minimum = self.checkpoint.minimum;
         let steps = self.checkpoint.steps + 1;
         let depth = self.checkpoint.depth;
-        let holds = self.checkpoint.holds;
-        let incumbent = self.checkpoint.incumbent;
         let pairs = self.pairs;
-        let cutoff = self.cutoff;
+        let mut holds = self.checkpoint.holds;
+        let mut incumbent = self.checkpoint.incumbent;
+        let mut cutoff = self.cutoff;
         let mut path = self.checkpoint.path;
+        let mut place = Place {
+            depth,
+            pairs,
+            finished: false,
+        };
         if self.bound < cutoff {
-            let place = retreat(&mut path, workspace, depth, pairs);
-            let bound = upper_bound(
-                edges,
-                masks,
-                later,
-                &path,
-                workspace,
-                place.depth,
-                place.pairs,
-                cutoff,
-            );
-            return Walk {
-                checkpoint: Checkpoint {
-                    minimum,
-                    steps,
-                    depth: place.depth,
-                    path,
-                    finished: place.finished,
-                    holds,
-                    incumbent,
-                },
-                pairs: place.pairs,
-                cutoff,
-                bound,
-            };
+            place = retreat(&mut path, workspace, depth, pairs);
+        } else if depth == order {
+            holds = true;
+            incumbent = path;
+            cutoff = pairs + 1;
+            place = retreat(&mut path, workspace, depth, pairs);
+        } else {
+            place = descend(&mut path, workspace, depth, pairs);
         }
-        if depth == order {
-            let held = path;
-            let size = pairs + 1;
-            let place = retreat(&mut path, workspace, depth, pairs);
-            let bound = upper_bound(
-                edges,
-                masks,
-                later,
-                &path,
-                workspace,
-                place.depth,
-                place.pairs,
-                size,
-            );
-            return Walk {
-                checkpoint: Checkpoint {
-                    minimum,
-                    steps,
-                    depth: place.depth,
-                    path,
-                    finished: place.finished,
-                    holds: true,
-                    incumbent: held,
-                },
-                pairs: place.pairs,
-                cutoff: size,
-                bound,
-            };
-        }
-        let place = descend(&mut path, workspace, depth, pairs);
         let bound = upper_bound(
             edges,
             masks,
@@ -286,7 +244,10 @@ pub fn start(
     }
     let pairs = mapping::mapping_size(&path[..depth]);
     rebuild(edges, masks, later, &path, workspace, depth);
-    let bound = upper_bound(edges, masks, later, &path, workspace, depth, pairs, cutoff);
+    let mut bound = pairs;
+    if pairs < MAX_ORDER {
+        bound = pairs + words::count_open(workspace, depth, pairs);
+    }
     Walk {
         checkpoint,
         pairs,
@@ -338,11 +299,11 @@ pub fn rebuild(
     requires { ⌜ InBounds (now edges) (now masks) (now later) (now path) depth (size (take depth (now path))) (now workspace) ⌝ }
     ensures { λ _. ⌜ ((P : Problem) → Setting P (P .old .order) (now (edges .entry)) (now (masks .entry)) → depth ≤ P .old .order
         → Reached (rulesOf P) (take depth (now (path .entry))) → Words P (now (path .entry)) 0 (now (workspace .entry))
-        → Words P (now (path .entry)) (depth - 1) (now (workspace .exit))) ⌝ }
+        → Words P (now (path .entry)) depth (now (workspace .exit))) ⌝ }
 {
     let mut row = 0;
     let mut pairs = 0;
-    while row + 1 < depth {
+    while row < depth {
         let value = path[row];
         if value != UNMAPPED {
             words::refine(

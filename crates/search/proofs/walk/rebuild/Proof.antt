@@ -19,9 +19,6 @@ abbrev μ-loop : tie.MeasureT-loop
 loop-holds : tie.Need-loop-holds Inv-loop μ-loop
 loop-holds c = rebuilt-none
 
-add-loop : tie.Need-add-loop Inv-loop μ-loop
-add-loop c = search needs
-
 element-copy-out-value : tie.Need-element-copy-out-value Inv-loop μ-loop
 element-copy-out-value c = search needs
 
@@ -31,8 +28,8 @@ mul-refine c = search needs
 element-copy-out-refine : tie.Need-element-copy-out-refine Inv-loop μ-loop
 element-copy-out-refine c = search needs
 
-cast-t23 : tie.Need-cast-t23 Inv-loop μ-loop
-cast-t23 c =
+cast-t22 : tie.Need-cast-t22 Inv-loop μ-loop
+cast-t22 c =
     let head = c .before .before .before .before .before in
     omega (arith, entry-max (head .before .before .before .before .pre) (head .loop .row) (omega arith) (c .before .before .if1 .taken))
 
@@ -89,11 +86,10 @@ rebuild-spec =
     Inv-loop
     μ-loop
     loop-holds
-    add-loop
     element-copy-out-value
     mul-refine
     element-copy-out-refine
-    cast-t23
+    cast-t22
     refine-requires
     add-pairs
     add-row

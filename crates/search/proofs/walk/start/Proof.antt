@@ -1,19 +1,22 @@
 -- `search::walk::start` meets its contract: the words of the path's ancestors are rebuilt, and the pairs, the cutoff and the bound are those of
 -- the checkpoint's node (`ResumedWalk`, `AdvancedCall`). Assumes nothing.
-use mathlib.Core.Path.{refl, sym, ap, _∙_}
+use mathlib.Core.Path.{_≡_, refl, sym, ap, _∙_}
 use mathlib.Core.Logic.{⊎-elim, inl, inr}
-use Prim.Native.Nat.{ℕ, _+_}
-use native.Mathlib.Nat.{le-refl}
+use mathlib.Core.List.{List}
+use Prim.Native.Nat.{ℕ, _+_, _≤_}
 use native.Mathlib.Omega.{arith}
 use lib.ListN.{take, length-take}
 use lib.Seq.{length-take-le}
 use borrow.Author.Needs.{needs}
+use Rattle.problem.specs.Problem.{Problem}
+use Rattle.search_tree.specs.Walk.{cutoff}
+use Rattle.checkpoint.specs.Checkpoints.{stateOf}
+use Rattle.search.specs.Walking.{Setting}
 use Rattle.mapping.proofs.Size.{size-max}
-use Rattle.search.proofs.AdvancedCall.{Accepted, shape-reached, call-node}
-use Rattle.search.proofs.LaterTop.{bounds-shorter}
+use Rattle.search.proofs.AdvancedCall.{Accepted, shape-reached, call-starts}
+use Rattle.search.proofs.NodeWords.{openRows-max, size-take-max}
 use Rattle.search.proofs.ReadyWalk.{own-order}
 use Rattle.search.proofs.ResumedWalk.{cutoff-counted}
-use Rattle.search.proofs.VisitTurn.{node-kept}
 use Rattle.search.proofs.walk.start.Statement.{statement}
 use Rattle.search.proofs.walk.start.Tie as tie
 
@@ -55,42 +58,70 @@ rebuild-requires c κs = c .before .before .before .before .before .before .befo
 abbrev entry : tie.After-rebuild → tie.Start
 entry c = c .before .before .before .before .before .before .before .before .before .before .before .before
 
-upper-bound-requires : tie.Need-upper-bound-requires
-upper-bound-requires c κs =
-    let rebuild = c .before .before .before .before in
-    bounds-shorter (entry rebuild .pre .0) (le-refl _) (rebuild .before .before .before .mapping-size2 .ensures) (rebuild .rebuild .kept .1 .1 .1 .1 .0)
+-- the cutoff counted is the state's
+cutoff-is : (c : tie.After-mapping-size2) {P : Problem} {edges masks : List ℕ}
+    → (let a = c .before .before .before .before .before .before .before .before .before .args in
+    Setting P (a .order) edges masks
+    → c .before .before .if1 .cutoff ≡ cutoff (a .checkpoint .minimum) (stateOf (P .old .order) (a .checkpoint) .incumbent))
+cutoff-is c setting =
+    let a = c .before .before .before .before .before .before .before .before .before .args in
+    rw (setting .order-is) (cutoff-counted (a .order) _ (a .checkpoint)
+    (⊎-elim (λ w. inl (w .0 .taken, w .3 ∙ ap (λ (k : ℕ). k + 1) (w .2 .ensures))) (λ w. inr (w .0 .left, w .1)) (c .before .before .if1 .came)))
+
+count-open-requires : tie.Need-count-open-requires
+count-open-requires c κs = search needs
+
+-- the pairs are those of the path, and no more than 64
+pairs-max : (c : tie.After-slice-known2) → c .before .before .before .before .before .mapping-size2 .result ≤ 64
+pairs-max c =
+    let s = entry (c .before .before) in
+    omega (
+      arith,
+      c .before .before .before .before .before .mapping-size2 .ensures,
+      size-take-max (s .args .checkpoint .path) (s .args .checkpoint .depth),
+      s .pre .0 .depth-max,
+    )
+
+add-bound : tie.Need-add-bound
+add-bound c =
+    let known = c .before .before .before in
+    let rebuild = known .before .before in
+    let pairs = rebuild .before .before .before .mapping-size2 .result in
+    let few = openRows-max (entry rebuild .args .checkpoint .depth) pairs (rebuild .rebuild .last .1 .1 .1 .1 .0) in
+    omega (arith, pairs-max known, c .count-open .ensures)
 
 same-length : tie.Need-same-length
 same-length c = search needs
 
+-- whatever the problem, the walk starts with the bound counted
 returns : tie.Need-returns
 returns c =
-    let call = c .before .before in
-    let rebuild = call .before .before .before .before .before in
+    let known = c .before .before .before in
+    let rebuild = known .before .before in
     let counted = rebuild .before .before .before in
     let s = entry rebuild in
-    let bounds = s .pre .0 in
-    let same = rebuild .rebuild .kept .1 .1 .1 .1 .0 in
     λ P setting shape words.
     let start : Accepted P (s .args .checkpoint) =
-    record { sound = setting .sound; shape = shape; path-long = bounds .path-length; incumbent-long = s .pre .1 .0 } in
-    let rebuilt = rebuild .rebuild .ensures P (own-order setting) (shape .depth-max) (shape-reached start) words in
-    let node = rw (sym (counted .mapping-size2 .ensures)) at (call-node start (omega (arith, bounds .room)) rebuilt) in
-    let bounded = call .upper-bound .ensures .0 P (own-order setting) node in
-    record {
-      checkpoint-is = refl;
-      ready = record {
-        shape = shape;
-        incumbent-length = s .pre .1 .0;
-        node = node-kept setting node (call .upper-bound .kept .1 .1 .1 .1 .0) (bounded .words);
-        cutoff-is =
-            rw (setting .order-is) (cutoff-counted (s .args .order) _ (s .args .checkpoint)
-            (⊎-elim (λ w. inl (w .0 .taken, w .3 ∙ ap (λ (k : ℕ). k + 1) (w .2 .ensures))) (λ w. inr (w .0 .left, w .1))
-            (counted .before .before .if1 .came)));
-        bounded = bounded;
-        small = call .upper-bound .ensures .1;
-      };
-    }
+    record { sound = setting .sound; shape = shape; path-long = s .pre .0 .path-length; incumbent-long = s .pre .1 .0 } in
+    call-starts start setting (omega (arith, s .pre .0 .room, rebuild .rebuild .kept .1 .1 .1 .1 .0)) (counted .mapping-size2 .ensures)
+    (rebuild .rebuild .ensures P (own-order setting) (shape .depth-max) (shape-reached start) words) (cutoff-is counted setting)
+    (inl (c .before .before .if2 .taken, ap (λ (k : ℕ). counted .mapping-size2 .result + k) (c .count-open .ensures)))
+
+same-length-2 : tie.Need-same-length-2
+same-length-2 c = search needs
+
+returns-2 : tie.Need-returns-2
+returns-2 c =
+    let known = c .before in
+    let rebuild = known .before .before in
+    let counted = rebuild .before .before .before in
+    let s = entry rebuild in
+    λ P setting shape words.
+    let start : Accepted P (s .args .checkpoint) =
+    record { sound = setting .sound; shape = shape; path-long = s .pre .0 .path-length; incumbent-long = s .pre .1 .0 } in
+    call-starts start setting (omega (arith, s .pre .0 .room, rebuild .rebuild .kept .1 .1 .1 .1 .0)) (counted .mapping-size2 .ensures)
+    (rebuild .rebuild .ensures P (own-order setting) (shape .depth-max) (shape-reached start) words) (cutoff-is counted setting)
+    (inr (c .if2 .left, refl))
 
 pub start-spec : {M : Type 1} → statement M
 start-spec =
@@ -105,6 +136,9 @@ start-spec =
     slice-aggregate-mapping-size-2
     mapping-size-requires-2
     rebuild-requires
-    upper-bound-requires
+    count-open-requires
+    add-bound
     same-length
-    returns)
+    returns
+    same-length-2
+    returns-2)

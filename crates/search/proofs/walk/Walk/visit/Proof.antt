@@ -1,12 +1,12 @@
 -- `search::walk::Walk::visit` meets its contract: the node is left, or held and left, or its first child is next, and the bound is made where
 -- the walk arrives (`VisitTurn`).
 -- Assumes nothing.
-use mathlib.Core.Path.{refl}
+use mathlib.Core.Logic.{⊎-elim}
 use borrow.Author.Needs.{needs}
 use native.Mathlib.Omega.{arith}
 use Rattle.search.specs.Walking.{InBounds}
 use Rattle.search.proofs.NodeWords.{pairs-max}
-use Rattle.search.proofs.VisitTurn.{node-in-bounds, ready-in-bounds, visits-left, visits-held, visits-down}
+use Rattle.search.proofs.VisitTurn.{ready-in-bounds, Moves, left, held, down, moved-in-bounds, visits-moved}
 use Rattle.search.proofs.walk.Walk.visit.Statement.{statement}
 use Rattle.search.proofs.walk.Walk.visit.Tie as tie
 
@@ -29,25 +29,8 @@ retreat-requires c κs =
     let b = bounds (c .before .before .before) in
     ((b .path-length, b .room, b .depth-max, b .pairs-are), b .entry)
 
-upper-bound-requires : tie.Need-upper-bound-requires
-upper-bound-requires c κs =
-    let resumes = entry (c .before .before .before .before .before .before) .pre .0 in
-    let back = c .before .before .retreat .ensures (resumes .problem) (resumes .setting .sound) (resumes .ready .node) in
-    node-in-bounds (resumes .setting) (back .node) (resumes .later-are)
-
-same-length : tie.Need-same-length
-same-length c = search needs
-
-returns : tie.Need-returns
-returns c =
-    let call = c .before .before in
-    let moved = call .before .before .before in
-    let s = entry (moved .before .before .before .before) in
-    visits-left (s .args .self) (s .pre .1 .0) (call .upper-bound .kept .1 .1 .1 .1 .0) (call .upper-bound .ensures) refl
-    (moved .before .before .before .if1 .taken) (moved .retreat .ensures)
-
-add-size : tie.Need-add-size
-add-size c =
+add-cutoff : tie.Need-add-cutoff
+add-cutoff c =
     let b = bounds (c .before .before) in
     omega (arith, pairs-max b, b .depth-max)
 
@@ -55,24 +38,6 @@ retreat-requires-2 : tie.Need-retreat-requires-2
 retreat-requires-2 c κs =
     let b = bounds (c .before .before .before .before) in
     ((b .path-length, b .room, b .depth-max, b .pairs-are), b .entry)
-
-upper-bound-requires-2 : tie.Need-upper-bound-requires-2
-upper-bound-requires-2 c κs =
-    let resumes = entry (c .before .before .before .before .before .before .before) .pre .0 in
-    let back = c .before .before .retreat2 .ensures (resumes .problem) (resumes .setting .sound) (resumes .ready .node) in
-    node-in-bounds (resumes .setting) (back .node) (resumes .later-are)
-
-same-length-2 : tie.Need-same-length-2
-same-length-2 c = search needs
-
-returns-2 : tie.Need-returns-2
-returns-2 c =
-    let call = c .before .before in
-    let moved = call .before .before .before in
-    let last = moved .before .before .before in
-    let s = entry (last .before .before) in
-    visits-held (s .args .self) (s .pre .1 .0) (call .upper-bound2 .kept .1 .1 .1 .1 .0) (call .upper-bound2 .ensures) refl
-    (last .before .if1 .left) (last .if2 .taken) (moved .retreat2 .ensures)
 
 descend-requires : tie.Need-descend-requires
 descend-requires c κs =
@@ -85,28 +50,30 @@ descend-requires c κs =
       pairs-max b,
     )
 
-upper-bound-requires-3 : tie.Need-upper-bound-requires-3
-upper-bound-requires-3 c κs =
-    let moved = c .before .before in
-    let last = moved .before .before .before in
-    let resumes = entry (last .before .before) .pre .0 in
-    let ready = resumes .ready in
-    let inner = last .if2 .left in
-    let down = moved .descend .ensures (resumes .problem) (resumes .setting .sound)
-    (omega (arith, inner, ready .node .depth-max, resumes .setting .order-is)) (ready .node) (ready .bounded .high (last .before .if1 .left) .1) in
-    node-in-bounds (resumes .setting) (down .node) (resumes .later-are)
+-- the walk moved
+moves : (c : tie.Joined1)
+    → (let a = entry (c .before) .args in
+    Moves (a .order) (a .self) (a .workspace .now) (c .if1 .holds) (c .if1 .incumbent) (c .if1 .cutoff) (c .if1 .path) (c .if1 .place))
+moves c =
+    ⊎-elim (λ w. rw (w .4, w .5, w .6, w .7, w .8) (left (w .0 .taken) (w .3 .ensures)))
+    (⊎-elim (λ w. rw (w .5, w .6, w .7, w .8, w .9) (held (w .0 .left) (w .1 .taken) (w .4 .ensures)))
+    (λ w. rw (w .5, w .6, w .7, w .8, w .9) (down (w .0 .left) (w .1 .left) (w .4 .ensures))))
+    (c .if1 .came)
 
-same-length-3 : tie.Need-same-length-3
-same-length-3 c = search needs
+upper-bound-requires : tie.Need-upper-bound-requires
+upper-bound-requires c κs =
+    let joined = c .before .before in
+    moved-in-bounds (entry (joined .before) .pre .0) (moves joined)
 
-returns-3 : tie.Need-returns-3
-returns-3 c =
+same-length : tie.Need-same-length
+same-length c = search needs
+
+returns : tie.Need-returns
+returns c =
     let call = c .before .before in
-    let moved = call .before .before .before in
-    let last = moved .before .before .before in
-    let s = entry (last .before .before) in
-    visits-down (s .args .self) (s .pre .1 .0) (call .upper-bound3 .kept .1 .1 .1 .1 .0) (call .upper-bound3 .ensures) refl
-    (last .before .if1 .left) (last .if2 .left) (moved .descend .ensures)
+    let joined = call .before .before .before in
+    let s = entry (joined .before) in
+    visits-moved (s .args .self) (s .pre .1 .0) (call .upper-bound .kept .1 .1 .1 .1 .0) (call .upper-bound .ensures) (moves joined)
 
 pub visit-spec : {M : Type 1} → statement M
 visit-spec =
@@ -114,15 +81,9 @@ visit-spec =
     (tie.spec
     add-steps
     retreat-requires
+    add-cutoff
+    retreat-requires-2
+    descend-requires
     upper-bound-requires
     same-length
-    returns
-    add-size
-    retreat-requires-2
-    upper-bound-requires-2
-    same-length-2
-    returns-2
-    descend-requires
-    upper-bound-requires-3
-    same-length-3
-    returns-3)
+    returns)
