@@ -18,7 +18,7 @@ use Rattle.search.specs.declared.walk.Walk.{Walk}
 use Rattle.checkpoint.specs.declared.Checkpoint.{Checkpoint}
 use Rattle.checkpoint.specs.Checkpoints.{stateOf, InShape}
 use Rattle.search.specs.Call.{Called, visits, advance}
-use Rattle.search.specs.Words.{Masks, Later, openRows, Words}
+use Rattle.search.specs.Words.{Masks, First, openRows, Words}
 use Rattle.search.specs.Walking.{Setting, AtNode, InBounds, Ready, Arrives, Starts}
 use Rattle.search.proofs.NodeWords.{openRows-max, size-take-max, node-bound, node-full, node-bounded}
 use Rattle.search.proofs.ReachedBounds.{reached-in-bounds}
@@ -49,10 +49,10 @@ module _ {P : Problem} {c : Checkpoint} (call : Accepted P c) where
   call-setting filled = record { sound = call .sound; order-is = refl; edges-is = refl; masks-are = filled }
 
   -- The checkpoint's path is in bounds.
-  pub call-bounds : {masks later ws : List ℕ} → Masks (graph (P .new .order) [] (P .new .edges)) masks → Later (P .old .edges) later
-      → 4160 ≤ length ws → InBounds (P .old .edges) masks later (c .path) (c .depth) (size (take (c .depth) (c .path))) ws
-  call-bounds filled later-are room =
-      reached-in-bounds (c .path) (c .depth) (call-setting filled) later-are shape-reached (call .shape .depth-max) (call .path-long) room
+  pub call-bounds : {masks first ws : List ℕ} → Masks (graph (P .new .order) [] (P .new .edges)) masks → First (P .old .edges) first
+      → 4160 ≤ length ws → InBounds (P .old .edges) masks first (c .path) (c .depth) (size (take (c .depth) (c .path))) ws
+  call-bounds filled first-are room =
+      reached-in-bounds (c .path) (c .depth) (call-setting filled) first-are shape-reached (call .shape .depth-max) (call .path-long) room
 
   -- Once the words of its path are there, the checkpoint is at a node,
   call-node : {ws : List ℕ} {pairs : ℕ} → 4160 ≤ length ws → pairs ≡ size (take (c .depth) (c .path)) → Words P (c .path) (c .depth) ws

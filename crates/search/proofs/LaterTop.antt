@@ -32,17 +32,17 @@ pub record LevelsHead (edges masks path ws ws′ : List ℕ) (depth pairs least 
   pub kept : SameLevels left ws ws′
   pub tops : (P : Problem) → Setting P (P .old .order) edges masks → AtNode P path depth pairs ws → max least (laterTop P path depth) ≡ max top (laterTop P path k)
 
-module _ {edges masks later path ws : List ℕ} {depth pairs : ℕ} (bounds : InBounds edges masks later path depth pairs ws) where
+module _ {edges masks first path ws : List ℕ} {depth pairs : ℕ} (bounds : InBounds edges masks first path depth pairs ws) where
   inside : depth ≤ length path
   inside = omega (arith, bounds .path-length, bounds .depth-max)
 
   -- A path's first entries are in bounds too, over a workspace as long.
   pub bounds-shorter : {k left : ℕ} {ws′ : List ℕ} → k ≤ depth → left ≡ size (take k path) → length ws′ ≡ length ws
-      → InBounds edges masks later path k left ws′
+      → InBounds edges masks first path k left ws′
   bounds-shorter h e same = record {
     edges-length = bounds .edges-length;
     masks-length = bounds .masks-length;
-    later-are = bounds .later-are;
+    first-are = bounds .first-are;
     path-length = bounds .path-length;
     room = omega (arith, bounds .room);
     depth-max = omega (arith, bounds .depth-max);

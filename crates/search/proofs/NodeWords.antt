@@ -43,7 +43,7 @@ pub size-mapped : (path : List ℕ) (row : ℕ) → row < length path → (getD 
 size-mapped path row h mapped =
     rw (take-extend path row h) (omega (arith, size-extend (take row path) (getD path row 0), counted-mapped (getD path row 0) mapped))
 
-module _ {edges masks later path : List ℕ} {depth pairs : ℕ} {ws : List ℕ} (bounds : InBounds edges masks later path depth pairs ws) where
+module _ {edges masks first path : List ℕ} {depth pairs : ℕ} {ws : List ℕ} (bounds : InBounds edges masks first path depth pairs ws) where
   -- A node has no more pairs than rows.
   pub pairs-max : pairs ≤ depth
   pairs-max = omega (arith, bounds .pairs-are, size-take-max path depth)

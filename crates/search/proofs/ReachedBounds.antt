@@ -11,18 +11,18 @@ use Rattle.mapping.specs.Common.{size}
 use Rattle.search_tree.specs.Rules.{rulesOf}
 use Rattle.search_tree.specs.Trees.{Reached}
 use Rattle.search_tree.proofs.Candidates.{candidate-value}
-use Rattle.search.specs.Words.{Later}
+use Rattle.search.specs.Words.{First}
 use Rattle.search.specs.Walking.{Setting, InBounds}
 use Rattle.search.proofs.ReadyWalk.{decided-length}
 
 -- A reached path of at most as many rows as there are is in bounds, over a workspace with room.
-pub reached-in-bounds : {P : Problem} {n : ℕ} {edges masks later : List ℕ} (path : List ℕ) (depth : ℕ) {ws : List ℕ} → Setting P n edges masks → Later edges later
+pub reached-in-bounds : {P : Problem} {n : ℕ} {edges masks first : List ℕ} (path : List ℕ) (depth : ℕ) {ws : List ℕ} → Setting P n edges masks → First edges first
     → Reached (rulesOf P) (take depth path) → depth ≤ P .old .order → length path ≡ 64 → 4160 ≤ length ws
-    → InBounds edges masks later path depth (size (take depth path)) ws
-reached-in-bounds {P} path depth setting later-are reached inside long room = record {
+    → InBounds edges masks first path depth (size (take depth path)) ws
+reached-in-bounds {P} path depth setting first-are reached inside long room = record {
   edges-length = ap length (sym (setting .edges-is)) ∙ setting .sound .old-sound .edges-length;
   masks-length = setting .masks-are .words;
-  later-are = later-are;
+  first-are = first-are;
   path-length = long;
   room = room;
   depth-max = omega (arith, setting .sound .old-sound .order-max);

@@ -8,15 +8,14 @@ use native.Mathlib.Decide.{decLt}
 use native.Mathlib.Omega.{arith}
 use lib.Dec.{leb, ltb, eqb}
 use lib.ListN.{length, getD}
-use borrow.Author.Tests.{lt-ltb, le-ltb, le-leb, lt-leb, leb-true, eqb-true}
+use borrow.Author.Tests.{lt-ltb, le-ltb, le-leb, lt-leb, leb-true}
 use Rattle.bitset.specs.Members.{member, meetOf, membersFrom}
 use Rattle.bitset.specs.Count.{size}
 use Rattle.bitset.proofs.Membership.{member-zero}
 use Rattle.bitset.proofs.SetOf.{member-setOf}
 use Rattle.bitset.proofs.CountBelow.{countBelow-congr, countBelow-zero, countBelow-parts}
 use Rattle.bitset.proofs.MembersFrom.{member-from}
-use Rattle.graph.specs.Graph.{place}
-use Rattle.search.specs.Words.{openSet, metWord, nearWord, farWord, laterNeighbours, lostRows, Refined, meetRows, Met, Counted}
+use Rattle.search.specs.Words.{openSet, metWord, nearWord, farWord, Covers, lostRows, Refined, meetRows, Met, Counted}
 use Rattle.search.specs.declared.words.Kept.{Kept}
 use Rattle.search.proofs.Levels.{word-open, word-closed, meet-empty, same-none, below-same}
 use Rattle.search.proofs.LevelStores.{FilledTo, withSet, level-word, level-member, level-below}
@@ -56,31 +55,22 @@ module _ (edges masks : List ℕ) (row pairs value : ℕ) (ws : List ℕ) {s : �
           go false = refl
       same r h (no before) = rw (le-ltb row r (omega arith), open-is r h, lt-leb (row + 1) r (omega arith)) refl
 
-  -- A row of the set without an edge to `row` has the mask of null edges.
-  pub far-word : (ws′ : List ℕ) {near far mask : ℕ} → near ≡ meetOf s (laterNeighbours edges row) → Parts s near far → mask ≡ getD masks (256 * value) 0
-      → (m : ℕ) → m < 64 → member far m ≡ true → getD ws′ (64 * pairs + m) 0 ≡ getD ws (64 * pairs + m) 0
+  -- A row of the set that is not met first has the mask of null edges.
+  pub far-word : (ws′ : List ℕ) (first : ℕ) {near far mask : ℕ} → Covers edges row first → near ≡ meetOf s first → Parts s near far
+      → mask ≡ getD masks (256 * value) 0 → (m : ℕ) → m < 64 → member far m ≡ true → getD ws′ (64 * pairs + m) 0 ≡ getD ws (64 * pairs + m) 0
       → farWord mask pairs ws′ m ≡ nearWord edges masks row pairs value ws m
-  far-word ws′ {near} {far} {mask} near-is parts mask-is m h own same =
+  far-word ws′ first {near} {far} {mask} covers near-is parts mask-is m h own same =
       let both = and-eq-true-iff (member s m) (not (member near m)) .0 (sym (parts .rest m h) ∙ own) in
       let later = and-eq-true-iff (leb (row + 1) m) (member (openSet pairs ws) m) .0 (sym (open-is m h) ∙ both .0) .0 in
-      let null = null-edge (both .0) (omega (arith, leb-true (row + 1) m later)) (both .1) in
+      let null = covers m (omega (arith, leb-true (row + 1) m later)) h (not-first (both .0) (both .1)) in
       rw (same, mask-is) (ap (λ (i : ℕ). meetOf (getD ws (64 * pairs + m) 0) (getD masks i 0)) (omega arith))
     where
-      null-edge : member s m ≡ true → row < m → not (member near m) ≡ true → getD edges (place row m) 0 ≡ 0
-      null-edge in-set later none = eqb-true (getD edges (place row m) 0) 0 (go (eqb (getD edges (place row m) 0) 0) refl)
+      not-first : member s m ≡ true → not (member near m) ≡ true → member first m ≡ false
+      not-first in-set none = go (member first m) refl
         where
-          go : (b : Bool) → eqb (getD edges (place row m) 0) 0 ≡ b → b ≡ true
-          go true e = refl
-          go false e =
-              rw (
-                near-is,
-                member-setOf 64 (λ i. member s i && member (laterNeighbours edges row) i) m h,
-                in-set,
-                member-setOf 64 (λ r. ltb row r && not (eqb (getD edges (place row r) 0) 0)) m h,
-                lt-ltb row m later,
-                e,
-              )
-              at none
+          go : (b : Bool) → member first m ≡ b → b ≡ false
+          go true e = sym (rw (near-is, member-setOf 64 (λ i. member s i && member first i) m h, in-set, e) at none)
+          go false e = refl
 
   module _ {need : ℕ} {ws′ : List ℕ} {all r : Kept} (empty : all .rows ≡ 0) (whole : all .count ≡ size s) (inner : pairs + 1 < 64) (room : 4160 ≤ length ws)
       (met : Met s (nearWord edges masks row pairs value ws) (pairs + 1) need ws all ws′ r) where

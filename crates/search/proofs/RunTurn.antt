@@ -46,7 +46,7 @@ unfolding checkpointOf
 arrived-minimum there = ap (λ (c : Checkpoint). c .minimum) (there .checkpoint-is)
 
 -- One visit is one step.
-pub visited-steps : {n : ℕ} {edges masks later ws ws′ : List ℕ} {w w′ : Walk} → w .checkpoint .finished ≡ false → Resumes n edges masks later w ws
+pub visited-steps : {n : ℕ} {edges masks first ws ws′ : List ℕ} {w w′ : Walk} → w .checkpoint .finished ≡ false → Resumes n edges masks first w ws
     → Visits n edges masks w ws w′ ws′ → w′ .checkpoint .steps ≡ w .checkpoint .steps + 1
 unfolding checkpointOf stateOf
 visited-steps {w = w} busy resumes visited =
@@ -54,18 +54,18 @@ visited-steps {w = w} busy resumes visited =
     ∙ visit-steps (searchOf (resumes .problem)) (w .checkpoint .minimum) (stateOf (resumes .problem .old .order) (w .checkpoint)) busy
 
 -- The invariant: as many visits are made as steps, whatever the problem, and the walk is ready for another.
-pub record RanTo (budget n : ℕ) (edges masks later ws : List ℕ) (w : Walk) (ws′ : List ℕ) (w′ : Walk) : Type 0 where
+pub record RanTo (budget n : ℕ) (edges masks first ws : List ℕ) (w : Walk) (ws′ : List ℕ) (w′ : Walk) : Type 0 where
   pub forward : w .checkpoint .steps ≤ w′ .checkpoint .steps
   pub within : w′ .checkpoint .steps ≤ w .checkpoint .steps + budget
   pub kept-length : length ws′ ≡ length ws
-  pub resumes : Resumes n edges masks later w′ ws′
+  pub resumes : Resumes n edges masks first w′ ws′
   pub arrives : (P : Problem) → Setting P n edges masks → Ready P w ws
       → Arrives P (w .checkpoint .minimum)
       (visits (searchOf P) (w .checkpoint .minimum) (w′ .checkpoint .steps - w .checkpoint .steps) (stateOf (P .old .order) (w .checkpoint))) w′ ws′
 
-module _ {budget n : ℕ} {edges masks later ws : List ℕ} {w : Walk} where
+module _ {budget n : ℕ} {edges masks first ws : List ℕ} {w : Walk} where
   -- At first no visit is made.
-  pub ran-none : Resumes n edges masks later w ws → RanTo budget n edges masks later ws w ws w
+  pub ran-none : Resumes n edges masks first w ws → RanTo budget n edges masks first ws w ws w
   unfolding visits
   ran-none resumes = record {
     forward = le-refl _;
@@ -79,10 +79,10 @@ module _ {budget n : ℕ} {edges masks later ws : List ℕ} {w : Walk} where
         rw none (record { checkpoint-is = sym own; ready = ready });
   }
 
-  module _ {ws′ : List ℕ} {w′ : Walk} (ran : RanTo budget n edges masks later ws w ws′ w′) where
+  module _ {ws′ : List ℕ} {w′ : Walk} (ran : RanTo budget n edges masks first ws w ws′ w′) where
     -- One visit more.
     pub ran-more : {ws″ : List ℕ} {w″ : Walk} → w′ .checkpoint .steps < w .checkpoint .steps + budget → w′ .checkpoint .finished ≡ false
-        → length ws″ ≡ length ws′ → Visits n edges masks w′ ws′ w″ ws″ → RanTo budget n edges masks later ws w ws″ w″
+        → length ws″ ≡ length ws′ → Visits n edges masks w′ ws′ w″ ws″ → RanTo budget n edges masks first ws w ws″ w″
     unfolding visits
     ran-more {ws″} {w″} h busy same visited =
         let one = visited-steps busy (ran .resumes) visited in
@@ -93,7 +93,7 @@ module _ {budget n : ℕ} {edges masks later ws : List ℕ} {w : Walk} where
           resumes = record {
             problem = ran .resumes .problem;
             setting = ran .resumes .setting;
-            later-are = ran .resumes .later-are;
+            first-are = ran .resumes .first-are;
             ready = visited (ran .resumes .problem) (ran .resumes .setting) (ran .resumes .ready) .ready;
           };
           arrives = λ P setting ready.

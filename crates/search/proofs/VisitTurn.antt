@@ -17,7 +17,7 @@ use Rattle.checkpoint.specs.declared.Checkpoint.{Checkpoint}
 use Rattle.search.specs.declared.walk.Place.{Place}
 use Rattle.search.specs.declared.walk.Walk.{Walk}
 use Rattle.checkpoint.specs.Checkpoints.{checkpointOf, stateOf, InShape}
-use Rattle.search.specs.Words.{Later, Words}
+use Rattle.search.specs.Words.{First, Words}
 use Rattle.search.specs.Walking.{Setting, AtNode, InBounds, Ready, Arrives, Bounded, RestZero, Descends, Retreats, Resumes}
 use Rattle.checkpoint.proofs.CheckpointState.{checkpoint-tidy}
 use Rattle.search.proofs.ReadyWalk.{own-order, node-length}
@@ -28,9 +28,9 @@ use Rattle.checkpoint.proofs.StateShape.{checkpoint-in-shape}
 module _ {P : Problem} {n : ℕ} {edges masks path ws : List ℕ} {depth pairs : ℕ} (setting : Setting P n edges masks)
     (node : AtNode P path depth pairs ws) where
   -- A node of a problem is in bounds.
-  pub node-in-bounds : {later : List ℕ} → Later edges later → InBounds edges masks later path depth pairs ws
-  node-in-bounds later-are =
-      rw (node .pairs-are) (reached-in-bounds path depth setting later-are (node .reached) (node .depth-max) (node .path-length) (node .room))
+  pub node-in-bounds : {first : List ℕ} → First edges first → InBounds edges masks first path depth pairs ws
+  node-in-bounds first-are =
+      rw (node .pairs-are) (reached-in-bounds path depth setting first-are (node .reached) (node .depth-max) (node .path-length) (node .room))
 
   -- A node stays one while the words of its ancestors do.
   pub node-kept : {ws′ : List ℕ} → length ws′ ≡ length ws → Words P path (depth - 1) ws′ → AtNode P path depth pairs ws′
@@ -44,9 +44,9 @@ module _ {P : Problem} {n : ℕ} {edges masks path ws : List ℕ} {depth pairs :
   }
 
 -- A walk that is ready for a visit is in bounds.
-pub ready-in-bounds : {P : Problem} {n : ℕ} {edges masks later ws : List ℕ} {w : Walk} → Setting P n edges masks → Later edges later
-    → Ready P w ws → InBounds edges masks later (w .checkpoint .path) (w .checkpoint .depth) (w .pairs) ws
-ready-in-bounds setting later-are ready = node-in-bounds setting (ready .node) later-are
+pub ready-in-bounds : {P : Problem} {n : ℕ} {edges masks first ws : List ℕ} {w : Walk} → Setting P n edges masks → First edges first
+    → Ready P w ws → InBounds edges masks first (w .checkpoint .path) (w .checkpoint .depth) (w .pairs) ws
+ready-in-bounds setting first-are ready = node-in-bounds setting (ready .node) first-are
 
 -- a place as a state
 abbrev placeState : ℕ → Option (List ℕ) → Place → List ℕ → State
@@ -307,18 +307,18 @@ pub data Moves (n : ℕ) (w : Walk) (ws : List ℕ) : Bool → List ℕ → ℕ 
       → Moves n w ws (w .checkpoint .holds) (w .checkpoint .incumbent) (w .cutoff) path′ r
 
 -- The place that the walk moves to is in bounds.
-pub moved-in-bounds : {n : ℕ} {edges masks later ws incumbent′ path′ : List ℕ} {w : Walk} {holds′ : Bool} {cutoff′ : ℕ} {r : Place}
-    → Resumes n edges masks later w ws → Moves n w ws holds′ incumbent′ cutoff′ path′ r
-    → InBounds edges masks later path′ (r .depth) (r .pairs) ws
+pub moved-in-bounds : {n : ℕ} {edges masks first ws incumbent′ path′ : List ℕ} {w : Walk} {holds′ : Bool} {cutoff′ : ℕ} {r : Place}
+    → Resumes n edges masks first w ws → Moves n w ws holds′ incumbent′ cutoff′ path′ r
+    → InBounds edges masks first path′ (r .depth) (r .pairs) ws
 moved-in-bounds resumes (left low back) =
-    node-in-bounds (resumes .setting) (back (resumes .problem) (resumes .setting .sound) (resumes .ready .node) .node) (resumes .later-are)
+    node-in-bounds (resumes .setting) (back (resumes .problem) (resumes .setting .sound) (resumes .ready .node) .node) (resumes .first-are)
 moved-in-bounds resumes (held high last back) =
-    node-in-bounds (resumes .setting) (back (resumes .problem) (resumes .setting .sound) (resumes .ready .node) .node) (resumes .later-are)
+    node-in-bounds (resumes .setting) (back (resumes .problem) (resumes .setting .sound) (resumes .ready .node) .node) (resumes .first-are)
 moved-in-bounds {w = w} resumes (down high inner first) =
     let ready = resumes .ready in
     let below : w .checkpoint .depth < resumes .problem .old .order = omega (arith, inner, ready .node .depth-max, resumes .setting .order-is) in
     node-in-bounds (resumes .setting) (first (resumes .problem) (resumes .setting .sound) below (ready .node) (ready .bounded .high high .1) .node)
-    (resumes .later-are)
+    (resumes .first-are)
 
 -- Once the bound is made there, one visit is made.
 pub visits-moved : {n : ℕ} {edges masks ws ws′ incumbent′ path′ : List ℕ} {holds′ : Bool} {cutoff′ bound′ : ℕ} {r : Place} (w : Walk)

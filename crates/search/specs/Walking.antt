@@ -20,7 +20,7 @@ use Rattle.search.specs.declared.walk.Place.{Place}
 use Rattle.search.specs.declared.walk.Walk.{Walk}
 use Rattle.checkpoint.specs.declared.Checkpoint.{Checkpoint}
 use Rattle.checkpoint.specs.Checkpoints.{stateOf, checkpointOf, InShape}
-use Rattle.search.specs.Words.{Masks, Later, Words}
+use Rattle.search.specs.Words.{Masks, First, Words}
 
 -- the problem whose old order, old edges and masks the code was lent
 pub record Setting (P : Problem) (n : ℕ) (edges masks : List ℕ) : Type 0 where
@@ -46,10 +46,10 @@ pub record AtRow (P : Problem) (path : List ℕ) (row pairs : ℕ) (workspace : 
   pub words : Words P path row workspace
 
 -- what keeps the code's reads and writes in bounds, whatever the problem
-pub record InBounds (edges masks later path : List ℕ) (depth pairs : ℕ) (workspace : List ℕ) : Type 0 where
+pub record InBounds (edges masks first path : List ℕ) (depth pairs : ℕ) (workspace : List ℕ) : Type 0 where
   pub edges-length : length edges ≡ 4096
   pub masks-length : length masks ≡ 16384
-  pub later-are : Later edges later
+  pub first-are : First edges first
   pub path-length : length path ≡ 64
   pub room : 4160 ≤ length workspace
   pub depth-max : depth ≤ 64
@@ -106,10 +106,10 @@ abbrev pub CountFits : Checkpoint → ℕ → Type 0
 CountFits c budget = c .finished ≡ false → c .steps + budget < 2 ^ 64
 
 -- some problem's search can go on from here with what the code is lent
-pub record Resumes (n : ℕ) (edges masks later : List ℕ) (w : Walk) (workspace : List ℕ) : Type 0 where
+pub record Resumes (n : ℕ) (edges masks first : List ℕ) (w : Walk) (workspace : List ℕ) : Type 0 where
   pub problem : Problem
   pub setting : Setting problem n edges masks
-  pub later-are : Later edges later
+  pub first-are : First edges first
   pub ready : Ready problem w workspace
 
 -- a walk at the checkpoint, ready for a visit

@@ -87,13 +87,13 @@ pub record Counted (edges masks : List ℕ) (row pairs value need : ℕ) (worksp
   pub few : count < need → meetRows edges masks row pairs value workspace < need
   pub whole : need ≤ count → (count ≡ meetRows edges masks row pairs value workspace) × Refined edges masks row pairs value workspace workspace′
 
--- the rows after `row` that have an edge to it
-abbrev pub laterNeighbours : List ℕ → ℕ → ℕ
-laterNeighbours edges row = setOf 64 (λ r. ltb row r && not (eqb (getD edges (place row r) 0) 0))
+-- a set that holds at least the rows after `row` that have an edge to it
+abbrev pub Covers : List ℕ → ℕ → ℕ → Type 0
+Covers edges row set = (r : ℕ) → row < r → r < 64 → member set r ≡ false → getD edges (place row r) 0 ≡ 0
 
--- one word for each row: its later neighbours
-abbrev pub Later : List ℕ → List ℕ → Type 0
-Later edges later = (row : ℕ) → row < 64 → getD later row 0 ≡ laterNeighbours edges row
+-- one word for each row: the rows that are met first
+abbrev pub First : List ℕ → List ℕ → Type 0
+First edges first = (row : ℕ) → row < 64 → Covers edges row (getD first row 0)
 
 -- how many rows of a set have no candidate, by their new words
 abbrev pub lostRows : ℕ → (ℕ → ℕ) → ℕ

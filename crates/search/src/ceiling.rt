@@ -17,21 +17,21 @@ ghost use Rattle.search_tree.specs.Node.{laterSiblings};
 ghost use Rattle.search_tree.specs.Ceiling.{topBound, ceiling as ceilingOf};
 ghost use Rattle.checkpoint.specs.Checkpoints.{stateOf};
 ghost use Rattle.search.specs.Walking.{Setting, AtNode, AtRow, InBounds, Ready, levelTop};
-ghost use Rattle.search.specs.Words.{SameLevels, laterNeighbours};
+ghost use Rattle.search.specs.Words.{SameLevels, Covers};
 
 // One more than the greatest upper bound among the later siblings at `row`, which has taken `value` after `pairs` pairs. Their words are made in
 // the level after theirs, which is needed no more.
 pub fn row_top(
     edges: &[u8],
     masks: &[u64],
-    neighbours: u64,
+    first: u64,
     workspace: &mut [u64],
     row: OldVertex,
     pairs: usize,
     value: NewVertex,
 ) -> usize
     requires { ⌜ (length (now edges) ≡ 4096) × (length (now masks) ≡ 16384) × (4160 ≤ length (now workspace)) ⌝ }
-    requires { ⌜ (row .0 < 64) × (pairs ≤ row .0) × (value .0 < 64) × (neighbours ≡ laterNeighbours (now edges) (row .0)) ⌝ }
+    requires { ⌜ (row .0 < 64) × (pairs ≤ row .0) × (value .0 < 64) × Covers (now edges) (row .0) first ⌝ }
     ensures kept { λ _. ⌜ SameLevels pairs (now (workspace .entry)) (now (workspace .exit)) ⌝ }
     ensures top { λ r. ⌜ ((P : Problem) (path : List ℕ) → Setting P (P .old .order) (now (edges .entry)) (now (masks .entry))
         → AtRow P path (row .0) pairs (now (workspace .entry)) → r ≡ levelTop (rulesOf P) (take (row .0) path) (value .0)) ⌝ }
@@ -44,16 +44,7 @@ pub fn row_top(
             Least::Member(v) => {
                 let above = pairs
                     + 2
-                    + words::refine(
-                        edges,
-                        masks,
-                        neighbours,
-                        workspace,
-                        row,
-                        pairs,
-                        NewVertex(v),
-                        0,
-                    );
+                    + words::refine(edges, masks, first, workspace, row, pairs, NewVertex(v), 0);
                 if top < above {
                     top = above;
                 }
@@ -71,14 +62,14 @@ pub fn row_top(
 pub fn later_top(
     edges: &[u8],
     masks: &[u64],
-    later: &[u64; MAX_ORDER],
+    first: &[u64; MAX_ORDER],
     path: &[u8; MAX_ORDER],
     workspace: &mut [u64],
     depth: usize,
     pairs: usize,
     least: usize,
 ) -> usize
-    requires { ⌜ InBounds (now edges) (now masks) (now later) (now path) depth pairs (now workspace) ⌝ }
+    requires { ⌜ InBounds (now edges) (now masks) (now first) (now path) depth pairs (now workspace) ⌝ }
     ensures { λ r. ⌜ ((P : Problem) → Setting P (P .old .order) (now (edges .entry)) (now (masks .entry))
         → AtNode P (now (path .entry)) depth pairs (now (workspace .entry))
         → r ≡ max least (topBound (rulesOf P) (laterSiblings (rulesOf P) (take depth (now (path .entry))) depth))) ⌝ }
@@ -96,7 +87,7 @@ pub fn later_top(
                 let above = row_top(
                     edges,
                     masks,
-                    later[row],
+                    first[row],
                     workspace,
                     OldVertex(row),
                     left,
@@ -117,10 +108,10 @@ pub fn ceiling(
     walk: Walk,
     edges: &[u8],
     masks: &[u64],
-    later: &[u64; MAX_ORDER],
+    first: &[u64; MAX_ORDER],
     workspace: &mut [u64],
 ) -> usize
-    requires { ⌜ InBounds (now edges) (now masks) (now later) (walk .checkpoint .path) (walk .checkpoint .depth) (walk .pairs) (now workspace) ⌝ }
+    requires { ⌜ InBounds (now edges) (now masks) (now first) (walk .checkpoint .path) (walk .checkpoint .depth) (walk .pairs) (now workspace) ⌝ }
     requires { ⌜ walk .bound < 2 ^ 64 - 1 ⌝ }
     ensures { λ r. ⌜ ((P : Problem) → Setting P (P .old .order) (now (edges .entry)) (now (masks .entry)) → Ready P walk (now (workspace .entry))
         → r ≡ ceilingOf (rulesOf P) (walk .checkpoint .minimum) (stateOf (P .old .order) (walk .checkpoint))) ⌝ }
@@ -138,7 +129,7 @@ pub fn ceiling(
     later_top(
         edges,
         masks,
-        later,
+        first,
         &path,
         workspace,
         depth,

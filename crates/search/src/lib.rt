@@ -84,18 +84,18 @@ fn advance<'a>(
     words::fill_masks(orders[1], edges[1], &mut masks);
     let agreeing = substitutes::agreeing(labels[0], labels[1], substitutes);
     words::root_words(old_order, &agreeing, workspace);
-    let later = words::all_later(old_edges);
-    let start = walk::start(checkpoint, old_order, old_edges, &masks, &later, workspace);
+    let first = words::all_first(old_order, old_edges);
+    let start = walk::start(checkpoint, old_order, old_edges, &masks, &first, workspace);
     let end = walk::run(
         start,
         budget,
         old_order,
         old_edges,
         &masks,
-        &later,
+        &first,
         workspace,
     );
-    let top = ceiling::ceiling(end, old_edges, &masks, &later, workspace);
+    let top = ceiling::ceiling(end, old_edges, &masks, &first, workspace);
     words::clear_words(workspace);
     let left = end.checkpoint;
     Searched {

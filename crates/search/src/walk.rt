@@ -19,7 +19,7 @@ ghost use Rattle.search_tree.specs.Search.{searchOf};
 ghost use Rattle.search_tree.specs.Trees.{Reached};
 ghost use Rattle.search_tree.specs.Walk.{visit};
 ghost use Rattle.checkpoint.specs.Checkpoints.{stateOf, InShape};
-ghost use Rattle.search.specs.Words.{Later, Words};
+ghost use Rattle.search.specs.Words.{Words};
 ghost use Rattle.search.specs.Walking.{Setting, AtNode, InBounds, Ready, Arrives, Bounded, Descends, Retreats, CountFits, Resumes, Starts};
 ghost use Rattle.search.specs.Call.{visits};
 
@@ -43,14 +43,14 @@ pub struct Walk {
 pub fn upper_bound(
     edges: &[u8],
     masks: &[u64],
-    later: &[u64; MAX_ORDER],
+    first: &[u64; MAX_ORDER],
     path: &[u8; MAX_ORDER],
     workspace: &mut [u64],
     depth: usize,
     pairs: usize,
     cutoff: usize,
 ) -> usize
-    requires { ⌜ InBounds (now edges) (now masks) (now later) (now path) depth pairs (now workspace) ⌝ }
+    requires { ⌜ InBounds (now edges) (now masks) (now first) (now path) depth pairs (now workspace) ⌝ }
     ensures bounded { λ r. ⌜ ((P : Problem) → Setting P (P .old .order) (now (edges .entry)) (now (masks .entry))
         → AtNode P (now (path .entry)) depth pairs (now (workspace .entry)) → Bounded P (now (path .entry)) depth cutoff (now (workspace .exit)) r) ⌝ }
     ensures small { λ r. ⌜ r < 2 ^ 64 - 1 ⌝ }
@@ -71,7 +71,7 @@ pub fn upper_bound(
         + words::refine(
             edges,
             masks,
-            later[row],
+            first[row],
             workspace,
             OldVertex(row),
             pairs - 1,
@@ -160,10 +160,10 @@ impl Walk {
         order: usize,
         edges: &[u8],
         masks: &[u64],
-        later: &[u64; MAX_ORDER],
+        first: &[u64; MAX_ORDER],
         workspace: &mut [u64],
     ) -> Walk
-        requires { ⌜ Resumes order (now edges) (now masks) (now later) self (now workspace) ⌝ }
+        requires { ⌜ Resumes order (now edges) (now masks) (now first) self (now workspace) ⌝ }
         requires { ⌜ (self .checkpoint .finished ≡ false) × (self .checkpoint .steps + 1 < 2 ^ 64) ⌝ }
         ensures { λ r. ⌜ ((P : Problem) → Setting P order (now (edges .entry)) (now (masks .entry)) → Ready P self (now (workspace .entry))
             → Arrives P (self .checkpoint .minimum)
@@ -195,7 +195,7 @@ impl Walk {
         let bound = upper_bound(
             edges,
             masks,
-            later,
+            first,
             &path,
             workspace,
             place.depth,
@@ -219,16 +219,16 @@ impl Walk {
     }
 }
 
-// A walk at a checkpoint, from the words of the root: those of its path's ancestors are rebuilt, and its pairs, cutoff and bound are counted.
+// A walk at a checkpoint, from the words of the root: those of its path are rebuilt, and its pairs, cutoff and bound are counted.
 pub fn start(
     checkpoint: Checkpoint,
     order: usize,
     edges: &[u8],
     masks: &[u64],
-    later: &[u64; MAX_ORDER],
+    first: &[u64; MAX_ORDER],
     workspace: &mut [u64],
 ) -> Walk
-    requires { ⌜ InBounds (now edges) (now masks) (now later) (checkpoint .path) (checkpoint .depth)
+    requires { ⌜ InBounds (now edges) (now masks) (now first) (checkpoint .path) (checkpoint .depth)
         (size (take (checkpoint .depth) (checkpoint .path))) (now workspace) ⌝ }
     requires { ⌜ (length (checkpoint .incumbent) ≡ 64) × (order ≤ 64) ⌝ }
     ensures { λ r. ⌜ ((P : Problem) → Setting P order (now (edges .entry)) (now (masks .entry)) → InShape P checkpoint
@@ -243,7 +243,8 @@ pub fn start(
         cutoff = mapping::mapping_size(&incumbent[..order]) + 1;
     }
     let pairs = mapping::mapping_size(&path[..depth]);
-    rebuild(edges, masks, later, &path, workspace, depth);
+    rebuild(edges, masks, first, &path, workspace, depth);
+    // with 64 pairs no row is undecided
     let mut bound = pairs;
     if pairs < MAX_ORDER {
         bound = pairs + words::count_open(workspace, depth, pairs);
@@ -263,10 +264,10 @@ pub fn run(
     order: usize,
     edges: &[u8],
     masks: &[u64],
-    later: &[u64; MAX_ORDER],
+    first: &[u64; MAX_ORDER],
     workspace: &mut [u64],
 ) -> Walk
-    requires { ⌜ CountFits (walk .checkpoint) budget × Resumes order (now edges) (now masks) (now later) walk (now workspace) ⌝ }
+    requires { ⌜ CountFits (walk .checkpoint) budget × Resumes order (now edges) (now masks) (now first) walk (now workspace) ⌝ }
     ensures { λ r. ⌜ ((P : Problem) → Setting P order (now (edges .entry)) (now (masks .entry)) → Ready P walk (now (workspace .entry))
         → Arrives P (walk .checkpoint .minimum)
         (visits (searchOf P) (walk .checkpoint .minimum) budget (stateOf (P .old .order) (walk .checkpoint))) r (now (workspace .exit))) ⌝ }
@@ -282,21 +283,21 @@ pub fn run(
         if finished {
             return at;
         }
-        at = at.visit(order, edges, masks, later, workspace);
+        at = at.visit(order, edges, masks, first, workspace);
     }
     at
 }
 
-// The words of the path's ancestors, from those of the root.
+// The words of the path, from those of the root.
 pub fn rebuild(
     edges: &[u8],
     masks: &[u64],
-    later: &[u64; MAX_ORDER],
+    first: &[u64; MAX_ORDER],
     path: &[u8; MAX_ORDER],
     workspace: &mut [u64],
     depth: usize,
 )
-    requires { ⌜ InBounds (now edges) (now masks) (now later) (now path) depth (size (take depth (now path))) (now workspace) ⌝ }
+    requires { ⌜ InBounds (now edges) (now masks) (now first) (now path) depth (size (take depth (now path))) (now workspace) ⌝ }
     ensures { λ _. ⌜ ((P : Problem) → Setting P (P .old .order) (now (edges .entry)) (now (masks .entry)) → depth ≤ P .old .order
         → Reached (rulesOf P) (take depth (now (path .entry))) → Words P (now (path .entry)) 0 (now (workspace .entry))
         → Words P (now (path .entry)) depth (now (workspace .exit))) ⌝ }
@@ -309,7 +310,7 @@ pub fn rebuild(
             words::refine(
                 edges,
                 masks,
-                later[row],
+                first[row],
                 workspace,
                 OldVertex(row),
                 pairs,

@@ -14,7 +14,7 @@ ghost use Rattle.problem.specs.Problem.{Problem};
 ghost use Rattle.problem.specs.VertexSets.{VertexSets};
 ghost use Rattle.bitset.specs.Count.{size};
 ghost use Rattle.search.specs.Words.{Masks, MaskRow, RootWords, levelWord, Counted, openRows};
-ghost use Rattle.search.specs.Words.{laterNeighbours, Later, Met, nearWord, farWord};
+ghost use Rattle.search.specs.Words.{Covers, First, Met, nearWord, farWord};
 
 // How many values an edge label has, 0 for a null edge included: as many masks has a new vertex.
 const EDGE_LABELS: usize = 256;
@@ -86,16 +86,33 @@ pub fn level_word(workspace: &[u64], pairs: usize, row: OldVertex) -> u64
     0
 }
 
-// The rows after `row` that have an edge to it.
-pub fn later_neighbours(edges: &[u8], row: OldVertex) -> u64
+// Whether more than one pair of old vertices in six has an edge; the table has each edge twice.
+pub fn many_edges(order: usize, edges: &[u8]) -> bool
+    requires { ⌜ (length (now edges) ≡ 4096) × (order ≤ 64) ⌝ }
+{
+    let mut count = 0;
+    let mut i = 0;
+    while i < edges.len() {
+        if edges[i] != 0 {
+            count += 1;
+        }
+        i += 1;
+    }
+    order * order < 6 * count
+}
+
+// The rows after `row` that are met first: those that have an edge to it, or, where edges are many, all.
+pub fn first_rows(many: bool, edges: &[u8], row: OldVertex) -> u64
     requires { ⌜ (length (now edges) ≡ 4096) × (row .0 < 64) ⌝ }
-    ensures { λ r. ⌜ r ≡ laterNeighbours (now (edges .entry)) (row .0) ⌝ }
+    ensures { λ r. ⌜ Covers (now (edges .entry)) (row .0) r ⌝ }
 {
     let from = row.0;
     let mut word = 0;
     let mut r = from + 1;
     while r < MAX_ORDER {
-        if edges[MAX_ORDER * from + r] != 0 {
+        if many {
+            word = bitset::with(word, r);
+        } else if edges[MAX_ORDER * from + r] != 0 {
             word = bitset::with(word, r);
         }
         r += 1;
@@ -103,18 +120,19 @@ pub fn later_neighbours(edges: &[u8], row: OldVertex) -> u64
     word
 }
 
-// The later neighbours of every row.
-pub fn all_later(edges: &[u8]) -> [u64; MAX_ORDER]
-    requires { ⌜ length (now edges) ≡ 4096 ⌝ }
-    ensures { λ r. ⌜ Later (now (edges .entry)) r ⌝ }
+// The rows that are met first, for each row. Where edges are many a second loop would cost more than it saves.
+pub fn all_first(order: usize, edges: &[u8]) -> [u64; MAX_ORDER]
+    requires { ⌜ (length (now edges) ≡ 4096) × (order ≤ 64) ⌝ }
+    ensures { λ r. ⌜ First (now (edges .entry)) r ⌝ }
 {
-    let mut later = [0u64; MAX_ORDER];
+    let many = many_edges(order, edges);
+    let mut first = [0u64; MAX_ORDER];
     let mut row = 0;
     while row < MAX_ORDER {
-        later[row] = later_neighbours(edges, OldVertex(row));
+        first[row] = first_rows(many, edges, OldVertex(row));
         row += 1;
     }
-    later
+    first
 }
 
 // The rows that keep a candidate, and how many of the rows open before are not known to have lost theirs.
@@ -123,7 +141,7 @@ pub struct Kept {
     pub count: usize,
 }
 
-// Of the rows `near`, neighbours of `row`, each word meets the mask of its edge to `row`, which took `value` after `pairs` pairs. Left as soon as
+// Of the rows `near` each word meets the mask of its edge to `row`, which took `value` after `pairs` pairs. Left as soon as
 // fewer than `need` rows are left.
 pub fn meet_near(
     edges: &[u8],
@@ -151,7 +169,7 @@ pub fn meet_near(
                 let label = edges[MAX_ORDER * from + r] as usize;
                 let at = MAX_ORDER * pairs + r;
                 let word = bitset::meet(workspace[at], masks[EDGE_LABELS * value.0 + label]);
-                // an empty word is stored too, since a jump that is hard to foresee costs more
+                // an empty word is stored too: a jump over the store would be hard to foresee
                 workspace[at + MAX_ORDER] = word;
                 rest = bitset::without_least(rest);
                 if bitset::is_empty(word) {
@@ -170,7 +188,7 @@ pub fn meet_near(
     }
 }
 
-// Of the rows `far`, no neighbours of the row just mapped, each word meets the one mask of null edges.
+// Of the rows `far`, without an edge to the row just mapped, each word meets the one mask of null edges.
 pub fn meet_far(
     mask: u64,
     workspace: &mut [u64],
@@ -209,11 +227,12 @@ pub fn meet_far(
 }
 
 // The words after `row`, with `pairs` pairs before it, took `value`: the word of each later row that has one meets the mask of its edge to
-// `row`. Returns how many of them are not empty, or, once fewer than `need` can be, a number below `need`. After 64 pairs there is no later row.
+// `row`, those in `first` before the others, which have no edge to it. Returns how many of them are not empty, or, once fewer than `need` can
+// be, a number below `need`. After 64 pairs there is no later row.
 pub fn refine(
     edges: &[u8],
     masks: &[u64],
-    neighbours: u64,
+    first: u64,
     workspace: &mut [u64],
     row: OldVertex,
     pairs: usize,
@@ -221,14 +240,14 @@ pub fn refine(
     need: usize,
 ) -> usize
     requires { ⌜ (length (now edges) ≡ 4096) × (length (now masks) ≡ 16384) × (4160 ≤ length (now workspace)) ⌝ }
-    requires { ⌜ (row .0 < 64) × (pairs ≤ row .0) × (value .0 < 64) × (neighbours ≡ laterNeighbours (now edges) (row .0)) ⌝ }
+    requires { ⌜ (row .0 < 64) × (pairs ≤ row .0) × (value .0 < 64) × Covers (now edges) (row .0) first ⌝ }
     ensures { λ r. ⌜ Counted (now (edges .entry)) (now (masks .entry)) (row .0) pairs (value .0) need (now (workspace .entry)) (now (workspace .exit)) r ⌝ }
 {
     if pairs == 63 {
         return 0;
     }
     let open = bitset::members_from(workspace[OPEN_SETS + pairs], row.0 + 1);
-    let near = bitset::meet(open, neighbours);
+    let near = bitset::meet(open, first);
     let all = Kept {
         rows: 0,
         count: bitset::size(open) as usize,

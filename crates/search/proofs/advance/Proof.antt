@@ -32,10 +32,10 @@ at-agreeing c = c .before .before .before
 abbrev at-masks : tie.After-root-words → tie.After-fill-masks
 at-masks c = at-agreeing c .before .before .before .before
 
-abbrev at-root : tie.After-all-later → tie.After-root-words
+abbrev at-root : tie.After-all-first → tie.After-root-words
 at-root c = c .before .before .before
 
-abbrev at-later : tie.After-start → tie.After-all-later
+abbrev at-later : tie.After-start → tie.After-all-first
 at-later c = c .before .before .before .before
 
 abbrev at-start : tie.After-run → tie.After-start
@@ -97,8 +97,10 @@ root-words-requires c κs =
     let pre = at-entry (c .before .before .before .before .before .before) .pre in
     (pre .0 .old-sound .order-max, omega (arith, pre .1 .1 .0))
 
-all-later-requires : tie.Need-all-later-requires
-all-later-requires c κs = at-entry (at-masks (c .before .before)) .pre .0 .old-sound .edges-length
+all-first-requires : tie.Need-all-first-requires
+all-first-requires c κs =
+    let old-sound = at-entry (at-masks (c .before .before)) .pre .0 .old-sound in
+    (old-sound .edges-length, old-sound .order-max)
 
 slice-aggregate-start : tie.Need-slice-aggregate-start
 slice-aggregate-start c = sym (at-masks (at-root (c .before)) .fill-masks .ensures .words)
@@ -112,7 +114,7 @@ start-requires c κs =
     let later = c .before .before .before in
     let masks = at-masks (at-root later) in
     let g = given (at-entry masks) in (
-      call-bounds g (masks .fill-masks .ensures) (later .all-later .ensures) (omega (arith, root-whole (at-root later))),
+      call-bounds g (masks .fill-masks .ensures) (later .all-first .ensures) (omega (arith, root-whole (at-root later))),
       (g .incumbent-long, g .sound .old-sound .order-max),
     )
 
@@ -138,7 +140,7 @@ run-requires c κs =
       record {
         problem = asked s;
         setting = setting (at-masks (at-root later));
-        later-are = later .all-later .ensures;
+        first-are = later .all-first .ensures;
         ready = started start .ready;
       },
     )
@@ -159,7 +161,7 @@ ceiling-requires : tie.Need-ceiling-requires
 ceiling-requires c κs =
     let run = c .before .before .before .before .before in
     let later = at-later (at-start run) in
-    (ready-in-bounds (setting (at-masks (at-root later))) (later .all-later .ensures) (made run .ready), made run .ready .small)
+    (ready-in-bounds (setting (at-masks (at-root later))) (later .all-first .ensures) (made run .ready), made run .ready .small)
 
 ceiling-whole : (c : tie.After-ceiling) → length (c .ceiling .last .1 .1 .1 .1 .0) ≡ 4160
 ceiling-whole c =
@@ -200,7 +202,7 @@ advance-spec =
     array-copy-out-agreeing-2
     agreeing-requires
     root-words-requires
-    all-later-requires
+    all-first-requires
     slice-aggregate-start
     start-requires
     slice-aggregate-run

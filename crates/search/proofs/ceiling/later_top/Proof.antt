@@ -13,11 +13,11 @@ use Rattle.search.proofs.ceiling.later_top.Statement.{statement}
 use Rattle.search.proofs.ceiling.later_top.Tie as tie
 
 abbrev Inv-loop : tie.InvT-loop
-Inv-loop edges masks later path workspace₀ depth pairs least top₀ k₀ left₀ workspace top k left =
+Inv-loop edges masks first path workspace₀ depth pairs least top₀ k₀ left₀ workspace top k left =
     LevelsHead edges masks path workspace₀ workspace depth pairs least k left top
 
 abbrev μ-loop : tie.MeasureT-loop
-μ-loop edges masks later path workspace₀ depth pairs least top₀ k₀ left₀ workspace top k left = k
+μ-loop edges masks first path workspace₀ depth pairs least top₀ k₀ left₀ workspace top k left = k
 
 -- the function's entry, from the loop's head
 abbrev entry : tie.At-loop Inv-loop μ-loop → tie.Start Inv-loop μ-loop
@@ -87,7 +87,7 @@ row-top-requires c κs =
         inside,
         omega (arith, pairs-left (c .before .before .before .before .before), size-take-max (entry head .args .path .now) (row head)),
         entry-max pre (row head) (omega arith) (c .before .before .before .before .before .if1 .taken),
-        pre .later-are (row head) inside,
+        pre .first-are (row head) inside,
       ),
     )
 

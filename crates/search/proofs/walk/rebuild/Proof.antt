@@ -10,11 +10,11 @@ use Rattle.search.proofs.walk.rebuild.Statement.{statement}
 use Rattle.search.proofs.walk.rebuild.Tie as tie
 
 abbrev Inv-loop : tie.InvT-loop
-Inv-loop edges masks later path workspace₀ depth row₀ pairs₀ workspace row pairs =
+Inv-loop edges masks first path workspace₀ depth row₀ pairs₀ workspace row pairs =
     RebuiltTo edges masks path depth workspace₀ workspace row pairs
 
 abbrev μ-loop : tie.MeasureT-loop
-μ-loop edges masks later path workspace₀ depth row₀ pairs₀ workspace row pairs = depth - row
+μ-loop edges masks first path workspace₀ depth row₀ pairs₀ workspace row pairs = depth - row
 
 loop-holds : tie.Need-loop-holds Inv-loop μ-loop
 loop-holds c = rebuilt-none
@@ -45,7 +45,7 @@ refine-requires c κs =
         inside,
         omega (arith, l .inv .pairs-are, size-take-max (start .args .path .now) (l .row)),
         entry-max bounds (l .row) (omega arith) (c .before .before .if1 .taken),
-        bounds .later-are (l .row) inside,
+        bounds .first-are (l .row) inside,
       ),
     )
 

@@ -9,11 +9,11 @@ use Rattle.search.proofs.walk.run.Statement.{statement}
 use Rattle.search.proofs.walk.run.Tie as tie
 
 abbrev Inv-loop : tie.InvT-loop
-Inv-loop budget order edges masks later workspace₀ finished last at₀ workspace at =
-    (last ≡ at₀ .checkpoint .steps + budget) × (last < 2 ^ 64) × RanTo budget order edges masks later workspace₀ at₀ workspace at
+Inv-loop budget order edges masks first workspace₀ finished last at₀ workspace at =
+    (last ≡ at₀ .checkpoint .steps + budget) × (last < 2 ^ 64) × RanTo budget order edges masks first workspace₀ at₀ workspace at
 
 abbrev μ-loop : tie.MeasureT-loop
-μ-loop budget order edges masks later workspace₀ finished last at₀ workspace at = last - at .checkpoint .steps
+μ-loop budget order edges masks first workspace₀ finished last at₀ workspace at = last - at .checkpoint .steps
 
 returns : tie.Need-returns Inv-loop μ-loop
 returns c =

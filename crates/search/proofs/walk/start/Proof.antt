@@ -1,4 +1,4 @@
--- `search::walk::start` meets its contract: the words of the path's ancestors are rebuilt, and the pairs, the cutoff and the bound are those of
+-- `search::walk::start` meets its contract: the words of the path are rebuilt, and the pairs, the cutoff and the bound are those of
 -- the checkpoint's node (`ResumedWalk`, `AdvancedCall`). Assumes nothing.
 use mathlib.Core.Path.{_≡_, refl, sym, ap, _∙_}
 use mathlib.Core.Logic.{⊎-elim, inl, inr}
@@ -93,7 +93,6 @@ add-bound c =
 same-length : tie.Need-same-length
 same-length c = search needs
 
--- whatever the problem, the walk starts with the bound counted
 returns : tie.Need-returns
 returns c =
     let known = c .before .before .before in

@@ -114,7 +114,7 @@ refine-requires c κs =
         row,
         omega (arith, before joined, size-take-max (a .path .now) (a .depth - 1)),
         value joined,
-        bounds .later-are (a .depth - 1) row,
+        bounds .first-are (a .depth - 1) row,
       ),
     )
 

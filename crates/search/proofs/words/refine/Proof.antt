@@ -1,37 +1,33 @@
--- `search::words::refine` meets its contract: of the open rows after `row` first its neighbours are met, then the others, and their set is
+-- `search::words::refine` meets its contract: the open rows after `row` are met in two parts, and their set is
 -- stored at the end (`MetParts`, `RefineTurn`). Assumes nothing.
-use mathlib.Core.Path.{_≡_, refl, ap, sym, _∙_}
+use mathlib.Core.Path.{_≡_, refl, sym}
 use Prim.Native.Nat.{_+_, _*_, _<_}
 use native.Mathlib.Omega.{arith}
 use lib.ListN.{length-set}
 use borrow.Author.Needs.{needs}
-use Rattle.bitset.specs.Members.{meetOf, differenceOf}
-use Rattle.search.specs.Words.{laterNeighbours, nearWord, Met}
+use Rattle.bitset.specs.Members.{differenceOf}
+use Rattle.search.specs.Words.{nearWord, Met}
 use Rattle.search.proofs.MetParts.{Parts, parts-meet, size-parts, met-words, met-first, rest-fits, met-both}
 use Rattle.search.proofs.RefineTurn.{far-word, counted-few, counted-all, counted-last}
 use Rattle.search.proofs.words.refine.Statement.{statement}
 use Rattle.search.proofs.words.refine.Tie as tie
 
--- the function's entry, once the neighbours are known
+-- the function's entry, once the first part is known
 abbrev entry : tie.After-meet → tie.Start
 entry c = c .before .before .before .before .before .before .before .before
 
--- the neighbours that are open
-near-is : (c : tie.After-meet) → c .meet .result ≡ meetOf (c .before .members-from .result) (laterNeighbours (entry c .args .edges .now) (entry c .args .row .0))
-near-is c = c .meet .ensures ∙ ap (meetOf (c .before .members-from .result)) (entry c .pre .1 .3)
-
--- they and the others are the open rows
+-- the open rows that are met first and the others are the open rows
 parts : (c : tie.After-meet) → Parts (c .before .members-from .result) (c .meet .result) (differenceOf (c .before .members-from .result) (c .meet .result))
-parts c = parts-meet (c .before .members-from .result) (laterNeighbours (entry c .args .edges .now) (entry c .args .row .0)) (near-is c) refl
+parts c = parts-meet (c .before .members-from .result) (entry c .args .first) (c .meet .ensures) refl
 
 inner : (c : tie.After-meet) → entry c .args .pairs + 1 < 64
 inner c = omega (arith, entry c .pre .1, c .before .before .before .before .if1 .left)
 
--- the place where the neighbours are known, from where they are met
+-- the place where the first part is known, from where it is met
 abbrev known : tie.After-meet-near → tie.After-meet
 known c = c .before .before .before
 
--- the neighbours are met
+-- the first part is met
 first-met : (c : tie.After-meet-near)
     → (let m = known c in
     let a = entry m .args in
@@ -39,7 +35,7 @@ first-met : (c : tie.After-meet-near)
     (a .need) (a .workspace .now) (record { rows = 0; count = c .before .before .size .result }) (c .meet-near .last .1 .1 .0) (c .meet-near .result))
 first-met c = c .meet-near .ensures
 
--- the place where the neighbours are met, from where the others are
+-- the place where the first part is met, from where the others are
 abbrev near-met : tie.After-meet-far → tie.After-meet-near
 near-met c = c .before .before .before .before .before .before .before .before .before
 
@@ -58,7 +54,7 @@ all-met c =
     (met-words
     (λ j h own.
     far-word (a .edges .now) (a .masks .now) (a .row .0) (a .pairs) (a .value .0) (a .workspace .now) (m .before .members-from .ensures)
-    (near .meet-near .last .1 .1 .0) (near-is m) (parts m) refl j h own (first .others (64 * a .pairs + j) (λ k l known e. omega arith)))
+    (near .meet-near .last .1 .1 .0) (a .first) (entry m .pre .1 .3) (m .meet .ensures) (parts m) refl j h own (first .others (64 * a .pairs + j) (λ k l known e. omega arith)))
     (rw (c .before .difference .ensures) at (c .meet-far .ensures)))
 
 returns : tie.Need-returns

@@ -16,10 +16,10 @@ entry c = c .before .before .before .before .before .before .before
 
 -- the walk is in bounds
 bounds : (c : tie.After-struct-known2) → let a = entry c .args in
-    InBounds (a .edges .now) (a .masks .now) (a .later .now) (a .self .checkpoint .path) (a .self .checkpoint .depth) (a .self .pairs) (a .workspace .now)
+    InBounds (a .edges .now) (a .masks .now) (a .first .now) (a .self .checkpoint .path) (a .self .checkpoint .depth) (a .self .pairs) (a .workspace .now)
 bounds c =
     let resumes = entry c .pre .0 in
-    ready-in-bounds (resumes .setting) (resumes .later-are) (resumes .ready)
+    ready-in-bounds (resumes .setting) (resumes .first-are) (resumes .ready)
 
 add-steps : tie.Need-add-steps
 add-steps c = search needs
