@@ -29,6 +29,7 @@
  *    20, 22  against an earlier row: the same new vertex; edges differ                   row (`earlier` has the earlier one)
  *    23      substitutes of odd length, or of more than 512 bytes                        0
  *    24      a label 0 among the substitutes                                             0
+ *    25      more than eight old vertices, for `golfcedar_clique`                        0
  *
  * A place is an offset: that of the command at fault, of the first byte that cannot stand there, or the length where the end is missing.
  * 10, 11 and 12, of lent tables, are never given. Where two graphs are given, the old one is read first; if `golfcedar_check_graph` accepts the old one, a
@@ -55,6 +56,8 @@ extern "C" {
 #define GOLFCEDAR_WORKSPACE_WORDS 4160
 /* Substitutes have at most this many bytes, two for each pair. */
 #define GOLFCEDAR_SUBSTITUTES_BYTES 512
+/* `golfcedar_clique` takes at most this many old vertices. */
+#define GOLFCEDAR_CLIQUE_VERTICES 8
 /* In a mapping: an old vertex that is left out. */
 #define GOLFCEDAR_UNMAPPED 255
 
@@ -90,6 +93,16 @@ uint32_t golfcedar_resume(const uint8_t *old_graph, size_t old_len, const uint8_
 uint32_t golfcedar_read_out(const uint8_t *old_graph, size_t old_len, const uint8_t *new_graph, size_t new_len,
                             const uint8_t *substitutes, size_t substitutes_len, const uint8_t *checkpoint, size_t checkpoint_len,
                             uint8_t *mapping, size_t mapping_len, uint64_t *value, uint64_t *steps, uint64_t *size, uint64_t *ceiling);
+
+/* The whole search in one call, for an old graph of at most eight vertices: by clique branching, which holds the mapping that a finished search with this
+ * `minimum` holds. Accepted: *value is 1 if a mapping is held; then *size is its size, one byte for each old vertex is stored to `mapping`, and later bytes are
+ * untouched. Else *value and *size are 0, `mapping` is untouched, and no common subgraph has `minimum` vertices. Refused: 1 to 9; 23; 24; 25; 13 if a mapping
+ * is held and has more bytes than `mapping`, never with 8 bytes.
+ * It has no bound and no budget: it goes through every common subgraph, and returns when it is through. That takes moments where few new vertices agree with
+ * each old one, and does not end in practice where 64 do (README.md has figures): `golfcedar_resume` can be stopped. */
+uint32_t golfcedar_clique(const uint8_t *old_graph, size_t old_len, const uint8_t *new_graph, size_t new_len,
+                          const uint8_t *substitutes, size_t substitutes_len, uint8_t minimum, uint8_t *mapping, size_t mapping_len,
+                          uint64_t *value, uint64_t *size);
 
 #ifdef __cplusplus
 }

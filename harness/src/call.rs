@@ -4,10 +4,10 @@ use std::fmt::{self, Display};
 use std::ops::Range;
 
 use crate::answer::Answer;
-use crate::reference::WORKSPACE_WORDS;
+use crate::reference::{UNMAPPED, WORKSPACE_WORDS};
 use crate::{library, reference};
 
-/// The five functions of include/golfcedar.h.
+/// The six functions of include/golfcedar.h.
 #[allow(clippy::type_complexity)]
 pub struct Implementation {
     pub name: &'static str,
@@ -16,6 +16,7 @@ pub struct Implementation {
     pub start: fn(&[u8], &[u8], &[u8], u8, &mut [u8]) -> Answer,
     pub resume: fn(&[u8], &[u8], &[u8], &[u8], u64, &mut [u64], &mut [u8]) -> Answer,
     pub read_out: fn(&[u8], &[u8], &[u8], &[u8], &mut [u8]) -> Answer,
+    pub clique: fn(&[u8], &[u8], &[u8], u8, &mut [u8]) -> Answer,
 }
 
 pub const LIBRARY: Implementation = Implementation {
@@ -25,6 +26,7 @@ pub const LIBRARY: Implementation = Implementation {
     start: library::start,
     resume: library::resume,
     read_out: library::read_out,
+    clique: library::clique,
 };
 
 pub const REFERENCE: Implementation = Implementation {
@@ -34,6 +36,7 @@ pub const REFERENCE: Implementation = Implementation {
     start: reference::start,
     resume: reference::resume,
     read_out: reference::read_out,
+    clique: reference::clique,
 };
 
 /// Memory lent for output, with a margin on both sides that shows a write out of bounds.
@@ -123,6 +126,7 @@ pub enum Call {
         checkpoint: Vec<u8>,
         mapping: Buffer<u8>,
     },
+    Clique(Clique),
 }
 
 #[derive(Clone, Debug, PartialEq, Eq)]
@@ -146,6 +150,38 @@ impl Resume {
                 ..Answer::accepted(next.len() as u64)
             },
             memory: Call::Resume(memory),
+        }
+    }
+}
+
+#[derive(Clone, Debug, PartialEq, Eq)]
+pub struct Clique {
+    pub given: Given,
+    pub minimum: u8,
+    pub mapping: Buffer<u8>,
+}
+
+impl Clique {
+    /// The outcome of this call if such a mapping is held, or none; 13 if it does not fit.
+    pub fn holding(&self, held: Option<&[u8]>) -> Outcome {
+        let mut memory = self.clone();
+        let answer = match held {
+            None => Answer::accepted(0),
+            Some(bytes) if bytes.len() > self.mapping.lent().len() => Answer {
+                number: 13,
+                ..Answer::default()
+            },
+            Some(bytes) => {
+                memory.mapping.lend()[..bytes.len()].copy_from_slice(bytes);
+                Answer {
+                    size: bytes.iter().filter(|&&byte| byte != UNMAPPED).count() as u64,
+                    ..Answer::accepted(1)
+                }
+            }
+        };
+        Outcome {
+            answer,
+            memory: Call::Clique(memory),
         }
     }
 }
@@ -196,6 +232,13 @@ impl Call {
                 checkpoint,
                 mapping.lend(),
             ),
+            Call::Clique(call) => (by.clique)(
+                &call.given.old,
+                &call.given.new,
+                &call.given.substitutes,
+                call.minimum,
+                call.mapping.lend(),
+            ),
         };
         Outcome { answer, memory }
     }
@@ -207,7 +250,8 @@ impl Call {
             Call::CheckMapping { given, .. }
             | Call::Start { given, .. }
             | Call::Resume(Resume { given, .. })
-            | Call::ReadOut { given, .. } => Some(given),
+            | Call::ReadOut { given, .. }
+            | Call::Clique(Clique { given, .. }) => Some(given),
         }
     }
 
@@ -218,7 +262,8 @@ impl Call {
             Call::CheckMapping { given, .. }
             | Call::Start { given, .. }
             | Call::Resume(Resume { given, .. })
-            | Call::ReadOut { given, .. } => given.substitutes.clear(),
+            | Call::ReadOut { given, .. }
+            | Call::Clique(Clique { given, .. }) => given.substitutes.clear(),
         }
         self
     }
@@ -230,6 +275,7 @@ impl Call {
             Call::Start { .. } => "golfcedar_start",
             Call::Resume(_) => "golfcedar_resume",
             Call::ReadOut { .. } => "golfcedar_read_out",
+            Call::Clique(_) => "golfcedar_clique",
         }
     }
 
@@ -271,6 +317,10 @@ impl Call {
             } => arguments.extend([
                 ("checkpoint", Listed(checkpoint).to_string()),
                 ("mapping", mapping.to_string()),
+            ]),
+            Call::Clique(call) => arguments.extend([
+                ("minimum", call.minimum.to_string()),
+                ("mapping", call.mapping.to_string()),
             ]),
         }
         arguments

@@ -3,6 +3,7 @@
 
 use std::ops::Range;
 
+use crate::library::CLIQUE_VERTICES;
 use crate::random::Random;
 use crate::reference::{entries_from_bytes, entries_to_bytes, size, Checkpoint, Entry};
 use crate::reference::{Graph, Node, Problem, Substitutes, MAX_VERTICES, UNMAPPED};
@@ -15,6 +16,8 @@ const ALPHABET: [u8; 7] = [1, 2, 7, 9, 64, 200, 255];
 /// Labels that none of their vertices has.
 const UNUSED: [u8; 3] = [3, 8, 254];
 const MAX_PAIRS: usize = 256;
+/// A tree of so many nodes is walked whole in a moment.
+const FEW_NODES: usize = 20_000;
 
 /// What the graphs of one problem have in common.
 pub struct Style {
@@ -81,6 +84,74 @@ pub fn problem(random: &mut Random, orders: Range<usize>) -> Problem {
         new,
         substitutes,
     }
+}
+
+/// At most eight old vertices, and a tree so small that it is walked without a bound.
+pub fn clique_problem(random: &mut Random) -> Problem {
+    let mut problem = if random.percent(10) {
+        wide_problem(random)
+    } else {
+        problem(random, 0..11)
+    };
+    problem.old = problem.old.first(CLIQUE_VERTICES);
+    while has_many_nodes(&problem) {
+        problem.new = problem.new.first(problem.new.order() - 1);
+    }
+    problem
+}
+
+/// The same with so many old vertices that clique branching is refused: but for those from the
+/// ninth on it is a problem as above.
+pub fn crowded_problem(random: &mut Random) -> Problem {
+    let mut problem = loop {
+        let problem = clique_problem(random);
+        if problem.old.order() == CLIQUE_VERTICES {
+            break problem;
+        }
+    };
+    let order = random.pick(&[9, 9, 9, 10, 16, 17, 63, MAX_VERTICES]);
+    for vertex in CLIQUE_VERTICES..order {
+        let label = label_of(random, &problem.old);
+        problem.old.add_vertex(label).unwrap();
+        if random.percent(50) {
+            let end = random.within(0..vertex);
+            let label = random.pick(&ALPHABET);
+            problem.old.add_edge(end, vertex, label).unwrap();
+        }
+    }
+    problem
+}
+
+/// Many new vertices, of so many labels that few of them agree with an old one.
+fn wide_problem(random: &mut Random) -> Problem {
+    let style = Style {
+        vertex_labels: (1..100).collect(),
+        ..Style::random(random)
+    };
+    let order = random.within(11..ANY_ORDER);
+    let new = graph(random, &style, order);
+    let old = shuffled_part(random, &new).first(random.within(0..CLIQUE_VERTICES + 1));
+    let substitutes = substitutes(random, &old, &new, 50);
+    Problem {
+        old,
+        new,
+        substitutes,
+    }
+}
+
+fn has_many_nodes(problem: &Problem) -> bool {
+    let mut left = FEW_NODES;
+    !count_down(&Node::root(problem), &mut left)
+}
+
+/// Takes one off for each node from this one on, and says whether there were enough.
+fn count_down(node: &Node, left: &mut usize) -> bool {
+    if *left == 0 {
+        return false;
+    }
+    *left -= 1;
+    let mut choices = node.choices().into_iter();
+    choices.all(|choice| count_down(&node.child(choice), left))
 }
 
 /// Every label in the place of another one, or of itself.

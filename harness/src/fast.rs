@@ -13,6 +13,8 @@
 //! Each visit is made, by one call of `visit`. To pass a run of rows without candidates at once was
 //! a fifth faster, but then the time of a visit would say little.
 
+pub mod clique;
+
 use std::array;
 
 use crate::reference::{entries_from_bytes, Checkpoint, Problem, MAX_VERTICES, UNMAPPED};

@@ -68,6 +68,20 @@ mod c {
             size: *mut u64,
             ceiling: *mut u64,
         ) -> u32;
+
+        pub fn golfcedar_clique(
+            old_graph: *const u8,
+            old_len: usize,
+            new_graph: *const u8,
+            new_len: usize,
+            substitutes: *const u8,
+            substitutes_len: usize,
+            minimum: u8,
+            mapping: *mut u8,
+            mapping_len: usize,
+            value: *mut u64,
+            size: *mut u64,
+        ) -> u32;
     }
 }
 
@@ -77,6 +91,8 @@ pub const SUBSTITUTES_BYTES: usize = 512;
 /// By this list only equal labels agree.
 pub const NO_SUBSTITUTES: &[u8] = &[];
 pub const MAX_VERTICES: usize = 64;
+/// Clique branching takes at most so many old vertices.
+pub const CLIQUE_VERTICES: usize = 8;
 pub const UNMAPPED: u8 = 255;
 
 /// What a number result holds before a call: a result that is not stored shows.
@@ -214,6 +230,37 @@ pub fn read_out(
         steps,
         size,
         ceiling,
+        ..Answer::default()
+    }
+}
+
+pub fn clique(
+    old: &[u8],
+    new: &[u8],
+    substitutes: &[u8],
+    minimum: u8,
+    mapping: &mut [u8],
+) -> Answer {
+    let [mut value, mut size] = [NOT_STORED; 2];
+    let number = unsafe {
+        c::golfcedar_clique(
+            old.as_ptr(),
+            old.len(),
+            new.as_ptr(),
+            new.len(),
+            substitutes.as_ptr(),
+            substitutes.len(),
+            minimum,
+            mapping.as_mut_ptr(),
+            mapping.len(),
+            &raw mut value,
+            &raw mut size,
+        )
+    };
+    Answer {
+        number,
+        value,
+        size,
         ..Answer::default()
     }
 }

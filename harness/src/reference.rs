@@ -3,14 +3,16 @@
 
 mod calls;
 mod checkpoint;
+mod clique;
 mod graph;
 mod mapping;
 mod search;
 mod substitutes;
 
-pub use calls::{check_graph, check_mapping, read_out, resume, start};
+pub use calls::{check_graph, check_mapping, clique, read_out, resume, start};
 pub use calls::{CHECKPOINT_BYTES, WORKSPACE_WORDS};
 pub use checkpoint::Checkpoint;
+pub use clique::clique_branch;
 pub use graph::{Graph, Problem, MAX_VERTICES};
 pub use mapping::{check, entries_from_bytes, entries_to_bytes, size, Entry, UNMAPPED};
 pub use search::{advance, ceiling, Node};
@@ -40,6 +42,7 @@ pub enum Reason {
     EdgesDiffer = 22,
     SubstitutesLength = 23,
     SubstituteLabelZero = 24,
+    TooManyOldVertices = 25,
 }
 
 /// A reason with the place or row that 01 gives along with it, 0 where it gives none.

@@ -6,11 +6,12 @@ use std::ops::RangeInclusive;
 
 use crate::answer::Answer;
 use crate::brute;
-use crate::call::{Buffer, Call, Given, Outcome, Resume, LIBRARY, REFERENCE};
+use crate::call::{Buffer, Call, Clique, Given, Outcome, Resume, LIBRARY, REFERENCE};
 use crate::cases::{self, ANY_ORDER};
 use crate::fast;
+use crate::library::CLIQUE_VERTICES;
 use crate::random::Random;
-use crate::reference::{advance, entries_from_bytes, entries_to_bytes, Checkpoint, Problem};
+use crate::reference::{advance, entries_from_bytes, entries_to_bytes, Checkpoint, Graph, Problem};
 use crate::reference::{Substitutes, CHECKPOINT_BYTES, MAX_VERTICES, WORKSPACE_WORDS};
 
 /// The error is what to print about a disagreement.
@@ -26,18 +27,20 @@ pub struct Kind {
     scenario: Scenario,
 }
 
-pub const KINDS: [Kind; 11] = [
-    kind("graph", 180, graph),
-    kind("mapping", 200, mapping),
+pub const KINDS: [Kind; 13] = [
+    kind("graph", 160, graph),
+    kind("mapping", 180, mapping),
     kind("start", 50, start),
     kind("room", 40, room),
-    kind("crafted", 180, crafted),
+    kind("crafted", 165, crafted),
     kind("damaged", 160, damaged),
     kind("small", 130, small),
     kind("relisted", 30, relisted),
     kind("middle", 22, middle),
     kind("large", 3, large),
     kind("long", 5, long),
+    kind("clique", 40, clique),
+    kind("crowded", 15, crowded),
 ];
 
 const fn kind(name: &'static str, share: usize, scenario: Scenario) -> Kind {
@@ -64,9 +67,9 @@ pub struct Judge {
     pub comparisons: u64,
     /// How often each number was answered.
     pub answers: BTreeMap<u32, u64>,
-    /// How often a list was at fault: by its number, and by what the call answers with the empty
-    /// list, 0 where nothing else is wrong.
-    pub list_faults: BTreeMap<(u32, u32), u64>,
+    /// How often a list was at fault, or clique branching had too many old vertices: by the number,
+    /// and by what the call answers without that fault, 0 where nothing else is wrong.
+    pub faults: BTreeMap<(u32, u32), u64>,
     /// Print the calls that agree too.
     pub aloud: bool,
 }
@@ -84,10 +87,9 @@ impl Judge {
         let outcome = call.made_by(&LIBRARY);
         self.comparisons += 1;
         *self.answers.entry(expected.answer.number).or_default() += 1;
-        if let Some(fault) = list_fault(&call) {
-            let without = call.clone().without_substitutes().made_by(&REFERENCE);
-            let beside = without.answer.number;
-            *self.list_faults.entry((fault, beside)).or_default() += 1;
+        for (fault, without) in faults(&call) {
+            let beside = without.made_by(&REFERENCE).answer.number;
+            *self.faults.entry((fault, beside)).or_default() += 1;
         }
         let both = || {
             let [library, wanted] = [&outcome, &expected].map(|outcome| outcome.describe(&call));
@@ -103,10 +105,27 @@ impl Judge {
     }
 }
 
-/// What is wrong with the list, whether or not the call comes to it.
-fn list_fault(call: &Call) -> Option<u32> {
-    let refusal = Substitutes::parse(&call.given()?.substitutes).err()?;
-    Some(refusal.reason as u32)
+/// What is wrong with the list and with the number of old vertices, whether or not the call comes
+/// to it, each with the call that has this fault no more.
+fn faults(call: &Call) -> Vec<(u32, Call)> {
+    let mut faults = Vec::new();
+    if let Some(given) = call.given() {
+        if let Err(refusal) = Substitutes::parse(&given.substitutes) {
+            let without = call.clone().without_substitutes();
+            faults.push((refusal.reason as u32, without));
+        }
+    }
+    if let Call::Clique(call) = call {
+        match Graph::parse(&call.given.old) {
+            Ok(old) if old.order() > CLIQUE_VERTICES => {
+                let mut without = call.clone();
+                without.given.old = old.first(CLIQUE_VERTICES).save();
+                faults.push((25, Call::Clique(without)));
+            }
+            _ => {}
+        }
+    }
+    faults
 }
 
 fn graph(judge: &mut Judge, random: &mut Random) -> Verdict<()> {
@@ -313,6 +332,63 @@ fn long(judge: &mut Judge, random: &mut Random) -> Verdict<()> {
         caller.checkpoint = next;
     }
     Ok(())
+}
+
+/// Clique branching against the finished walk, with every length of the output near the one
+/// needed; then a call with one thing or more wrong in it.
+fn clique(judge: &mut Judge, random: &mut Random) -> Verdict<()> {
+    let problem = cases::clique_problem(random);
+    let finished = |minimum| advance(&problem, &Checkpoint::fresh(minimum), u64::MAX);
+    let mut call = clique_call(random, &problem);
+    if random.percent(50) {
+        // the greatest size, which is reached, or the one above
+        let above = finished(0).cutoff() as u8;
+        call.minimum = random.pick(&[above - 1, above - 1, above]);
+    }
+    let held = finished(call.minimum).incumbent;
+    let held = held.as_deref().map(entries_to_bytes);
+    for length in near(problem.old.order()) {
+        let mut call = call.clone();
+        call.mapping = pattern(random, length, MAX_VERTICES);
+        let expected = call.holding(held.as_deref());
+        judge.compare_with(Call::Clique(call), expected)?;
+    }
+    spoilt_clique(judge, random, call, &[1, 1, 2, 3])
+}
+
+/// Too many old vertices, alone and with other things wrong.
+fn crowded(judge: &mut Judge, random: &mut Random) -> Verdict<()> {
+    let problem = cases::crowded_problem(random);
+    let call = clique_call(random, &problem);
+    spoilt_clique(judge, random, call, &[0, 1, 1, 1, 2])
+}
+
+fn clique_call(random: &mut Random, problem: &Problem) -> Clique {
+    Clique {
+        given: given(random, problem),
+        minimum: random.pick(&[0, 0, 0, 1, 1, 2, 3, 4, 5, 6, 7, 8, 9, 255]),
+        mapping: output(random, MAX_VERTICES, 0),
+    }
+}
+
+fn spoilt_clique(
+    judge: &mut Judge,
+    random: &mut Random,
+    mut call: Clique,
+    times: &[usize],
+) -> Verdict<()> {
+    for _ in 0..random.pick(times) {
+        match random.within(0..5) {
+            0 => cases::damage(random, &mut call.given.old),
+            1 | 2 => cases::damage(random, &mut call.given.new),
+            3 => cases::spoil_substitutes(random, &mut call.given.substitutes),
+            _ => {
+                let length = random.within(0..CLIQUE_VERTICES);
+                call.mapping = pattern(random, length, MAX_VERTICES);
+            }
+        }
+    }
+    judge.compare(Call::Clique(call)).map(drop)
 }
 
 /// A list of calls from a fresh checkpoint, refused ones among them. It must lead to the

@@ -2,9 +2,9 @@
 
 use std::thread;
 
-use harness::call::{Buffer, Call, Given, Resume, LIBRARY};
+use harness::call::{Buffer, Call, Clique, Given, Resume, LIBRARY};
 use harness::cases::{graph, Style};
-use harness::library::SUBSTITUTES_BYTES;
+use harness::library::{CLIQUE_VERTICES, SUBSTITUTES_BYTES};
 use harness::random::Random;
 use harness::reference::{Checkpoint, CHECKPOINT_BYTES, MAX_VERTICES, WORKSPACE_WORDS};
 use harness::scenarios::{Judge, KINDS};
@@ -21,8 +21,9 @@ fn each_kind_agrees() {
     }
 }
 
-/// Each function on two graphs of 64 vertices and all edges, and on a full list.
-fn heavy_calls() -> [Call; 5] {
+/// Each function on two graphs of 64 vertices and all edges, and on a full list; clique branching on
+/// as many old vertices as it takes.
+fn heavy_calls() -> [Call; 6] {
     let style = Style {
         vertex_labels: vec![7],
         edge_labels: vec![1, 2],
@@ -53,6 +54,7 @@ fn heavy_calls() -> [Call; 5] {
             checkpoint: checkpoint.clone(),
             mapping: Buffer::filled(0, MAX_VERTICES, MAX_VERTICES),
         },
+        Call::Clique(deep_clique()),
         Call::Resume(Resume {
             given,
             checkpoint,
@@ -63,7 +65,29 @@ fn heavy_calls() -> [Call; 5] {
     ]
 }
 
-/// A thread has the promised 300 kilobytes, and a little for itself; with more the test crashes.
+/// Eight rows, and 64 new vertices for each as long as none before it has one: all choices of all
+/// rows may be open at a time. A pair leaves nothing to the other rows, so the call ends soon.
+fn deep_clique() -> Clique {
+    let graph_of = |edge_label, order| {
+        let style = Style {
+            vertex_labels: vec![7],
+            edge_labels: vec![edge_label],
+            density: 100,
+        };
+        graph(&mut Random::new(0), &style, order).save()
+    };
+    Clique {
+        given: Given {
+            old: graph_of(1, CLIQUE_VERTICES),
+            new: graph_of(2, MAX_VERTICES),
+            substitutes: vec![9; SUBSTITUTES_BYTES],
+        },
+        minimum: 0,
+        mapping: Buffer::filled(0, CLIQUE_VERTICES, CLIQUE_VERTICES),
+    }
+}
+
+/// A thread has the promised 320 kibibytes; a call that needs more crashes the test.
 #[test]
 fn stack_is_as_promised() {
     for call in heavy_calls() {

@@ -1,10 +1,13 @@
-//! The reference against brute force, and the fast walk against the reference.
+//! The reference against brute force and against its own clique branching, and the fast walk against
+//! the reference.
 
 use harness::brute;
 use harness::cases;
-use harness::fast::Search;
+use harness::fast::{self, Search};
 use harness::random::Random;
-use harness::reference::{advance, ceiling, entries_from_bytes, Checkpoint, Problem};
+use harness::reference::{
+    advance, ceiling, clique_branch, entries_from_bytes, Checkpoint, Problem,
+};
 
 #[test]
 fn reference_finds_what_brute_force_finds() {
@@ -18,6 +21,23 @@ fn reference_finds_what_brute_force_finds() {
         let expected = reaches.then(|| entries_from_bytes(&largest));
         assert!(last.finished);
         assert_eq!(last.incumbent, expected, "seed {seed}");
+    }
+}
+
+/// 02, U2: "the same matching as the finished walk for the same floor".
+#[test]
+fn clique_branching_holds_what_the_walk_holds() {
+    for seed in 0..2_000 {
+        let mut random = Random::new(seed);
+        let problem = cases::clique_problem(&mut random);
+        for minimum in [0, 1, 2, 4, 8, 9, 255] {
+            let last = advance(&problem, &Checkpoint::fresh(minimum), u64::MAX);
+            let held = clique_branch(&problem, minimum);
+            let fast = fast::clique::branch(&problem, minimum).held;
+            let fast = fast.map(|bytes| entries_from_bytes(&bytes));
+            assert_eq!(fast, last.incumbent, "seed {seed}, minimum {minimum}");
+            assert_eq!(held, Ok(last.incumbent), "seed {seed}, minimum {minimum}");
+        }
     }
 }
 

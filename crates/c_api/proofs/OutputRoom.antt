@@ -1,17 +1,24 @@
--- With room for 270 bytes, or for the 64 of a mapping, the number 13 does not occur, so that no visit is lost for want of it.
+-- With room for 270 bytes, or for the 64 of a mapping, or for the eight of one that clique branching holds, the number 13 does not occur, so that no visit
+-- is lost for want of it.
 use mathlib.Core.Path.{_≡_, refl}
 use mathlib.Core.Bool.{cond}
 use mathlib.Core.List.{List}
+use mathlib.Core.Option.{Option, none, some}
 use Prim.Native.Nat.{ℕ, _≤_}
 use native.Mathlib.Omega.{arith}
+use lib.Dec.{leb}
 use lib.ListN.{length, length-take}
-use borrow.Author.Tests.{le-leb}
-use Rattle.answers.specs.Answer.{Answer, passed, accepted, refused, refusedAt, refusalNumber}
+use borrow.Author.Tests.{le-leb, leb-false}
+use Rattle.answers.specs.Answer.{Answer, passed, accepted, refused, refusedAt, refusalNumber, whenPassed}
 use Rattle.answers.specs.Output.{writeIf}
+use Rattle.answers.proofs.Choice.{cond-cases}
 use Rattle.answers.proofs.RefusalNumbers.{Plain}
 use Rattle.problem.specs.Problem.{Problem, substituting}
 use Rattle.problem_reader.specs.ProblemReading.{ReadOutcome, read, refusal, readProblem}
 use Rattle.problem_reader.proofs.ReadProblem.{Refusing, outcome-refusing}
+use Rattle.clique.specs.Branching.{branch}
+use Rattle.clique.specs.Call.{cliqueAnswer}
+use Rattle.clique.proofs.BranchBest.{branch-length}
 use Rattle.checkpoint.specs.declared.Checkpoint.{Checkpoint}
 use Rattle.checkpoint.specs.Checkpoints.{freshCheckpoint}
 use Rattle.checkpoint.specs.Checking.{checkpointAnswer}
@@ -23,10 +30,14 @@ use Rattle.checkpoint_bytes.proofs.CalledSized.{called-in-shape}
 use Rattle.checkpoint_bytes.proofs.LoadAccepts.{load-in-shape}
 use Rattle.checkpoint_bytes.proofs.LoadedSized.{load-sized}
 use Rattle.checkpoint_bytes.proofs.SavedBytes.{incumbent-few, saved-max}
+use Rattle.replies.specs.Reply.{replyOf}
 use Rattle.replies.specs.Resumed.{Resumed}
 use Rattle.replies.specs.ReadOut.{heldIn, readCheckpoint, readLoaded, readBytes}
+use Rattle.replies.specs.CliqueReply.{CliqueReply, noMapping, heldReply, branchReply}
+use Rattle.clique.proofs.CliquePasses.{clique-plain, passes-clique}
 use Rattle.c_api.specs.Calls.{startOn, starting, resuming}
 use Rattle.c_api.specs.ReadOut.{readOutOn, readingOut}
+use Rattle.c_api.specs.Branching.{branchOn, branching, HeldShort}
 use Rattle.c_api.specs.ResumedCall.{ResumedCall, refused as turned, short, advanced}
 use Rattle.c_api.proofs.RefusalNumbers.{loading-plain}
 use Rattle.c_api.proofs.ResumedCall.{resume-goes}
@@ -65,7 +76,7 @@ module _ (old new substitutes : List ℕ) where
       go (resuming old new substitutes bytes budget workspace next) (resume-goes old new substitutes bytes budget workspace next small)
     where
       go : (r : Resumed) → ResumedCall old new substitutes bytes budget workspace next r → r .reply .number ≡ 13 → ⊥
-      go r (turned some never) z = never z
+      go r (turned refuses never) z = never z
       go r (short s) z =
           let P = substituting substitutes (s .searched .graphs) in
           let found = load-in-shape P bytes (s .searched .loaded) in
@@ -101,3 +112,37 @@ module _ (old new substitutes : List ℕ) where
       go : (g : ReadOutcome) → Refusing g → readOutOn g substitutes bytes mapping .reply .number ≡ 13 → ⊥
       go (read G) h z = let P = substituting substitutes G in read-fits P (loading P bytes .answer) refl (loading-plain P bytes) z
       go (refusal a) h z = omega (arith, h .2)
+
+  module _ (minimum : ℕ) (mapping : List ℕ) where
+    -- Clique branching gives 13 only where it holds a mapping that does not fit.
+    pub clique-short : branching old new substitutes minimum mapping .reply .number ≡ 13 → HeldShort old new substitutes minimum mapping
+    unfolding branching branchReply
+    clique-short = on-graphs (readProblem old new) refl (outcome-refusing old new)
+      where
+        Shorts : CliqueReply → Type 0
+        Shorts r = r .reply .number ≡ 13 → HeldShort old new substitutes minimum mapping
+
+        on-answer : (G : Problem) → readProblem old new ≡ read G
+            → (a : Answer) → cliqueAnswer (substituting substitutes G) ≡ a → Plain a
+            → (held : Option (List ℕ)) → branch (substituting substitutes G) minimum ≡ held
+            → Shorts (whenPassed a (heldReply held mapping) (λ (refusal : Answer). noMapping mapping (replyOf refusal)))
+        on-answer G e passed p h none b z = absurd (omega arith)
+        on-answer G e passed p h (some l) b z =
+            cond-cases Shorts (leb (length l) (length mapping)) (λ fits y. absurd (omega arith))
+            (λ few y. record { graphs = G; graphs-read = e; tested = p; held = l; is-held = b; too-short = leb-false _ _ few }) z
+        on-answer G e (accepted n) p h held b z = absurd h
+        on-answer G e (refused n) p h held b z = absurd (omega (arith, h .2))
+        on-answer G e (refusedAt n at) p h held b z = absurd (omega (arith, h .2))
+
+        on-graphs : (g : ReadOutcome) → readProblem old new ≡ g → Refusing g → Shorts (branchOn g substitutes minimum mapping)
+        on-graphs (read G) e h z =
+            let P = substituting substitutes G in on-answer G e (cliqueAnswer P) refl (clique-plain P) (branch P minimum) refl z
+        on-graphs (refusal a) e h z = absurd (omega (arith, h .2))
+
+    -- What it holds always fits into eight bytes.
+    pub clique-fits : 8 ≤ length mapping → branching old new substitutes minimum mapping .reply .number ≡ 13 → ⊥
+    clique-fits room z =
+        let s = clique-short z in
+        let P = substituting substitutes (s .graphs) in
+        let fine = passes-clique P (s .tested) in
+        omega (arith, s .too-short, branch-length P (fine .0) minimum (s .held) (s .is-held), fine .1)

@@ -18,9 +18,11 @@ use Rattle.replies.specs.Reply.{replyOf}
 use Rattle.replies.specs.Checked.{CheckedMapping, checked, checkedBy}
 use Rattle.replies.specs.Resumed.{resumed, resumeFrom}
 use Rattle.replies.specs.ReadOut.{ReadOut, notReadOut, readBytes}
+use Rattle.replies.specs.CliqueReply.{CliqueReply, noMapping, branchReply}
 use Rattle.c_api.specs.Checks.{checkOn, checkingMapping}
 use Rattle.c_api.specs.Calls.{started, startedBy, startOn, starting, resumeOn, resuming}
 use Rattle.c_api.specs.ReadOut.{readOutOn, readingOut}
+use Rattle.c_api.specs.Branching.{branchOn, branching}
 
 module _ (old new substitutes : List ℕ) where
   module _ (l : List ℕ) where
@@ -73,3 +75,14 @@ module _ (old new substitutes : List ℕ) where
         → x ≡ readingOut old new substitutes bytes mapping
     unfolding readingOut
     read-out-read P e x p = p ∙ ap (λ (o : ReadOutcome). readOutOn o substitutes bytes mapping) e
+
+  module _ (minimum : ℕ) (mapping : List ℕ) where
+    pub clique-refused : (t : Reply) (a : Answer) → t ≡ replyOf a → refusal a ≡ readProblem old new
+        → noMapping mapping t ≡ branching old new substitutes minimum mapping
+    unfolding branching
+    clique-refused t a p e = ap (noMapping mapping) p ∙ ap (λ (o : ReadOutcome). branchOn o substitutes minimum mapping) e
+
+    pub clique-read : (P : Problem) → read P ≡ readProblem old new → (x : CliqueReply) → x ≡ branchReply (substituting substitutes P) minimum mapping
+        → x ≡ branching old new substitutes minimum mapping
+    unfolding branching
+    clique-read P e x p = p ∙ ap (λ (o : ReadOutcome). branchOn o substitutes minimum mapping) e

@@ -13,7 +13,7 @@ use Rattle.answers.proofs.RefusalNumbers.{RefusalNumber}
 use Rattle.problem.specs.Problem.{Problem, SoundProblem}
 use Rattle.checkpoint.specs.declared.Checkpoint.{Checkpoint}
 use Rattle.checkpoint.specs.Checkpoints.{InShape}
-use Rattle.search.specs.Call.{Called, wordsNeeded, searchCall}
+use Rattle.search.specs.Call.{Called, wordsNeeded}
 use Rattle.search.specs.Calls.{Call, called}
 use Rattle.checkpoint.proofs.CheckpointPasses.{shape-passes}
 use Rattle.checkpoint_bytes.specs.Between.{Sized}

@@ -1,25 +1,30 @@
 -- A refused call leaves what was lent as it was, whatever its length and whatever else was lent.
 use mathlib.Core.Path.{_≡_, refl}
 use mathlib.Core.List.{List}
+use mathlib.Core.Option.{Option, none, some}
 use Prim.Native.Nat.{ℕ, _≤_}
 use native.Mathlib.Omega.{arith}
 use lib.Dec.{leb}
 use lib.ListN.{length}
-use Rattle.answers.specs.Answer.{Answer, passed, accepted, refused, refusedAt, refusalNumber}
+use Rattle.answers.specs.Answer.{Answer, passed, accepted, refused, refusedAt, refusalNumber, whenPassed}
 use Rattle.answers.specs.Output.{Writing}
 use Rattle.answers.proofs.Choice.{either}
 use Rattle.problem.specs.Problem.{Problem, substituting}
 use Rattle.problem_reader.specs.ProblemReading.{ReadOutcome, read, refusal, readProblem}
+use Rattle.clique.specs.Branching.{branch}
+use Rattle.clique.specs.Call.{cliqueAnswer}
 use Rattle.checkpoint.specs.Checkpoints.{freshCheckpoint}
 use Rattle.search.specs.Call.{Called, searchCall}
 use Rattle.checkpoint_bytes.specs.Saving.{saving}
 use Rattle.checkpoint_bytes.specs.Loading.{Loading, loading}
-use Rattle.replies.specs.Reply.{reply}
+use Rattle.replies.specs.Reply.{reply, replyOf}
 use Rattle.replies.specs.Resumed.{Resumed, resumed, notResumed, whenAccepted, saveOn, searchFrom, loadOn, resumeFrom}
 use Rattle.replies.specs.ReadOut.{ReadOut, heldIn, readCheckpoint, readLoaded, readBytes}
+use Rattle.replies.specs.CliqueReply.{CliqueReply, noMapping, heldReply, branchReply}
 use Rattle.replies.proofs.CallKept.{Ways, Positive, save-kept}
 use Rattle.c_api.specs.Calls.{startOn, starting, resumeOn, resuming}
 use Rattle.c_api.specs.ReadOut.{readOutOn, readingOut}
+use Rattle.c_api.specs.Branching.{branchOn, branching}
 
 module _ (old new substitutes : List ℕ) where
   pub start-unmoved : (minimum : ℕ) (buffer : List ℕ) → 1 ≤ starting old new substitutes minimum buffer .reply .number
@@ -91,4 +96,24 @@ module _ (old new substitutes : List ℕ) where
 
       on-graphs : (g : ReadOutcome) → Keeps (readOutOn g substitutes bytes mapping)
       on-graphs (read G) z = let P = substituting substitutes G in on-load P (loading P bytes) (loading P bytes .answer) z
+      on-graphs (refusal a) z = refl
+
+  pub clique-unmoved : (minimum : ℕ) (mapping : List ℕ) → 1 ≤ branching old new substitutes minimum mapping .reply .number
+      → branching old new substitutes minimum mapping .mapping ≡ mapping
+  unfolding branching branchReply
+  clique-unmoved minimum mapping = on-graphs (readProblem old new)
+    where
+      Keeps : CliqueReply → Type 0
+      Keeps r = 1 ≤ r .reply .number → r .mapping ≡ mapping
+
+      on-answer : (a : Answer) (held : Option (List ℕ))
+          → Keeps (whenPassed a (heldReply held mapping) (λ (refusal : Answer). noMapping mapping (replyOf refusal)))
+      on-answer passed none z = refl
+      on-answer passed (some l) z = either Keeps (leb (length l) (length mapping)) (λ y. absurd (omega arith)) (λ y. refl) z
+      on-answer (accepted n) held z = refl
+      on-answer (refused n) held z = refl
+      on-answer (refusedAt n at) held z = refl
+
+      on-graphs : (g : ReadOutcome) → Keeps (branchOn g substitutes minimum mapping)
+      on-graphs (read G) z = let P = substituting substitutes G in on-answer (cliqueAnswer P) (branch P minimum) z
       on-graphs (refusal a) z = refl

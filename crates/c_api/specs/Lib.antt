@@ -3,3 +3,4 @@ pub mod Calls
 pub mod ReadOut
 pub mod ResumedCall
 pub mod ByteCalls
+pub mod Branching

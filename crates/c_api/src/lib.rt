@@ -10,9 +10,11 @@ ghost use Rattle.replies.specs.Reply.{reply};
 ghost use Rattle.replies.specs.Checked.{checked};
 ghost use Rattle.replies.specs.Resumed.{resumed};
 ghost use Rattle.replies.specs.ReadOut.{readOut};
+ghost use Rattle.replies.specs.CliqueReply.{cliqueReply};
 ghost use Rattle.c_api.specs.Checks.{checkingGraph, checkingMapping};
 ghost use Rattle.c_api.specs.Calls.{started, starting, resuming};
 ghost use Rattle.c_api.specs.ReadOut.{readingOut};
+ghost use Rattle.c_api.specs.Branching.{branching};
 
 // Whether the bytes are a graph.
 #[no_mangle]
@@ -221,6 +223,54 @@ pub extern "C" fn golfcedar_read_out(
             *size = out.size;
             *ceiling = out.ceiling;
             out.reply.number
+        }
+    }
+}
+
+// The first of the largest common subgraphs of at least `minimum` pairs, under the substitutes, by clique branching.
+#[no_mangle]
+pub extern "C" fn golfcedar_clique(
+    old_graph: &[u8],
+    new_graph: &[u8],
+    substitutes: &[u8],
+    minimum: u8,
+    mapping: &mut [u8],
+    value: &mut u64,
+    size: &mut u64,
+) -> u32
+    ensures { λ r. ⌜ cliqueReply (reply r (now (value .exit))) (now (size .exit)) (now (mapping .exit))
+        ≡ branching (now («old_graph» .entry)) (now («new_graph» .entry)) (now (substitutes .entry)) minimum (now (mapping .entry)) ⌝ }
+{
+    let mut old_labels = [0 as Label; MAX_ORDER];
+    let mut old_edges = [0u8; EDGE_BYTES];
+    let mut new_labels = [0 as Label; MAX_ORDER];
+    let mut new_edges = [0u8; EDGE_BYTES];
+    match problem_reader::read_problem(
+        old_graph,
+        new_graph,
+        &mut old_labels,
+        &mut old_edges,
+        &mut new_labels,
+        &mut new_edges,
+    ) {
+        ProblemRead::Refused(refusal) => {
+            let reply = replies::of_read(refusal);
+            *value = reply.value;
+            *size = 0;
+            reply.number
+        }
+        ProblemRead::Orders(old_order, new_order) => {
+            let found = replies::branch(
+                [old_order, new_order],
+                [&old_labels, &new_labels],
+                [&old_edges, &new_edges],
+                substitutes,
+                minimum,
+                mapping,
+            );
+            *value = found.reply.value;
+            *size = found.size;
+            found.reply.number
         }
     }
 }

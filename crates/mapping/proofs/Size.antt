@@ -3,10 +3,11 @@ use mathlib.Core.Path.{_≡_, refl}
 use mathlib.Core.Logic.{_≢_}
 use mathlib.Core.Bool.{Bool, true, false, cond}
 use mathlib.Core.List.{List, [], _∷_, _++_}
-use Prim.Native.Nat.{ℕ, zero, suc, _+_, _≤_}
+use Prim.Native.Nat.{ℕ, zero, suc, _+_, _≤_, _<_}
+use native.Mathlib.Nat.{not-suc-le-zero, le-of-suc-le-suc}
 use native.Mathlib.Omega.{arith}
 use lib.Dec.{eqb}
-use lib.ListN.{length, replicate}
+use lib.ListN.{length, getD, set, replicate}
 use borrow.Author.Tests.{ne-eqb}
 use Rattle.mapping.specs.Common.{unmapped, mappedFrom, size}
 
@@ -64,3 +65,9 @@ size-none (suc n) = omega (arith, size-cons unmapped (replicate n unmapped), siz
 -- A mapped row counts one.
 pub counted-mapped : (w : ℕ) → w ≢ unmapped → counted w ≡ 1
 counted-mapped w m = rw (ne-eqb w unmapped m)
+
+-- An image put into a row that was left out adds one to the size.
+pub size-set : (l : List ℕ) (v w : ℕ) → v < length l → getD l v 0 ≡ unmapped → w ≢ unmapped → size (set l v w) ≡ suc (size l)
+size-set [] v w h e m = absurd (not-suc-le-zero h)
+size-set (u ∷ l) zero w h e m = rw e (omega (arith, size-cons w l, size-cons unmapped l, counted-mapped w m))
+size-set (u ∷ l) (suc v) w h e m = omega (arith, size-cons u (set l v w), size-cons u l, size-set l v w (le-of-suc-le-suc h) e m)

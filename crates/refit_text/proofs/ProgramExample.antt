@@ -15,6 +15,7 @@ use Rattle.answers.specs.Answer.{accepted}
 use Rattle.graph.specs.Graph.{Graph, graph}
 use Rattle.graph_reader.specs.Reading.{reading, readFrom, judge, readGraph}
 use Rattle.problem_reader.specs.ProblemReading.{readingProblem, readProblem}
+use Rattle.problem_reader.proofs.MarkedGraphs.{bytes, bytes-small}
 use Rattle.problem_reader.proofs.ReadProblem.{problem-sound}
 use Rattle.substitutes.specs.Substitutes.{listed, agree}
 use Rattle.problem.specs.Problem.{Problem, SoundProblem, problem, allowed, consistent}
@@ -26,7 +27,6 @@ use Rattle.search_tree.specs.Walk.{visitPath, visit, after}
 use Rattle.search_tree.specs.Ceiling.{topBound, ceiling}
 use Rattle.checkpoint.specs.Checkpoints.{checkpointOf}
 use Rattle.search.specs.Call.{Called, wordsNeeded}
-use Rattle.search.proofs.Examples.{bytes, bytes-small}
 use Rattle.search.proofs.WalkCall.{fresh-call}
 use Rattle.text.specs.Decimal.{digits}
 use Rattle.refit_text.specs.Lines.{keepLines, removeLines, isFree, fitLines}

@@ -1,2 +1,3 @@
 pub mod CallKept
 pub mod CallArms
+pub mod CliqueReply

@@ -3,3 +3,4 @@ pub mod Checked
 pub mod Apart
 pub mod Resumed
 pub mod ReadOut
+pub mod CliqueReply

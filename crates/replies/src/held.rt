@@ -1,4 +1,4 @@
-// The mapping that a checkpoint holds, stored and counted.
+// The mapping that is held, by a checkpoint or at the end of clique branching, stored and counted.
 
 ghost use mathlib.Core.Path.{_≡_};
 ghost use mathlib.Core.Bool.{cond};
@@ -16,7 +16,7 @@ pub fn entries_held(holds: bool, order: usize) -> usize
 
 // The first `k` entries of a list, to the front of `out`.
 fn put_front(list: &[u8], k: usize, out: &mut [u8])
-    requires { ⌜ (length (now list) ≡ 64) × (k ≤ 64) × (k ≤ length (now out)) ⌝ }
+    requires { ⌜ (k ≤ length (now list)) × (k ≤ length (now out)) ⌝ }
     ensures { λ _. ⌜ now (out .exit) ≡ overwrite (take k (now (list .entry))) (now (out .entry)) ⌝ }
 {
     let mut i = 0;
@@ -28,7 +28,7 @@ fn put_front(list: &[u8], k: usize, out: &mut [u8])
 
 // The same, and how many of them are pairs.
 pub fn put_entries(list: &[u8], k: usize, out: &mut [u8]) -> u64
-    requires { ⌜ (length (now list) ≡ 64) × (k ≤ 64) × (k ≤ length (now out)) ⌝ }
+    requires { ⌜ (k ≤ length (now list)) × (k ≤ length (now out)) ⌝ }
     ensures size { λ r. ⌜ r ≡ size (take k (now (list .entry))) ⌝ }
     ensures stored { λ _. ⌜ now (out .exit) ≡ overwrite (take k (now (list .entry))) (now (out .entry)) ⌝ }
 {

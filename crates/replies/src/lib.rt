@@ -1,4 +1,5 @@
-// What a caller outside Rattle gets, in numbers: the reply to an answer, to a search call on checkpoint bytes, and to a reading out of them.
+// What a caller outside Rattle gets, in numbers: the reply to an answer, to a search call on checkpoint bytes, to a reading out
+// of them, and to clique branching.
 
 mod held;
 mod values;
@@ -7,6 +8,7 @@ mod words;
 use checkpoint::Checkpoint;
 use checkpoint_bytes::LoadAnswer;
 use checkpoint_bytes::SaveAnswer;
+use clique::CliqueAnswer;
 use graph_reader::ReadAnswer;
 use mapping::MappingAnswer;
 use problem::Edges;
@@ -20,12 +22,14 @@ ghost use lib.ListN.{getD};
 ghost use Rattle.graph_reader.specs.Answers.{readAnswer};
 ghost use Rattle.problem.specs.Lent.{lent};
 ghost use Rattle.mapping.specs.Answers.{mappingOutcome};
+ghost use Rattle.clique.specs.Answers.{cliqueAnswerOf};
 ghost use Rattle.search.specs.Answers.{searchAnswer};
 ghost use Rattle.checkpoint_bytes.specs.Answers.{saveAnswer, loadAnswer};
 ghost use Rattle.replies.specs.Reply.{replyOf};
 ghost use Rattle.replies.specs.Checked.{checked, checkedBy};
 ghost use Rattle.replies.specs.Resumed.{resumed, searchFrom, resumeFrom};
 ghost use Rattle.replies.specs.ReadOut.{readOut, readCheckpoint, readBytes};
+ghost use Rattle.replies.specs.CliqueReply.{cliqueReply, branchReply};
 
 // The document's number of a refusal, or 0, and the value that goes with it.
 pub struct Reply {
@@ -51,6 +55,12 @@ pub struct ReadReply {
     pub steps: u64,
     pub size: u64,
     pub ceiling: u64,
+}
+
+// A reply, whose value says whether a mapping is held, and the mapping's size.
+pub struct BranchReply {
+    pub reply: Reply,
+    pub size: u64,
 }
 
 pub fn of_read(answer: ReadAnswer) -> Reply
@@ -86,6 +96,15 @@ fn of_search(answer: SearchAnswer) -> Reply
     Reply {
         number: search::search_number(answer) as u32,
         value: values::search_value(answer),
+    }
+}
+
+fn of_clique(answer: CliqueAnswer) -> Reply
+    ensures { λ r. ⌜ r ≡ replyOf (cliqueAnswerOf answer) ⌝ }
+{
+    Reply {
+        number: clique::clique_number(answer) as u32,
+        value: values::clique_value(answer),
     }
 }
 
@@ -277,6 +296,49 @@ pub fn read_out<'a>(
             steps: 0,
             size: 0,
             ceiling: 0,
+        },
+    }
+}
+
+// Clique branching, and the mapping that it holds, to the front of `mapping`; eight bytes are always room enough.
+pub fn branch<'a>(
+    orders: Orders,
+    labels: Labels<'a>,
+    edges: Edges<'a>,
+    substitutes: &[u8],
+    minimum: u8,
+    mapping: &mut [u8],
+) -> BranchReply
+    ensures { λ r. ⌜ cliqueReply (r .reply) (r .size) (now (mapping .exit))
+        ≡ branchReply (lent orders (labels .entry) (edges .entry) (now (substitutes .entry))) minimum (now (mapping .entry)) ⌝ }
+{
+    let found = clique::branch(orders, labels, edges, substitutes, minimum);
+    let answer = found.answer;
+    let entries = found.mapping;
+    match answer {
+        CliqueAnswer::Held => {
+            let order = orders[0];
+            if mapping.len() < order {
+                return BranchReply {
+                    reply: Reply {
+                        number: 13,
+                        value: 0,
+                    },
+                    size: 0,
+                };
+            }
+            let size = held::put_entries(&entries, order, mapping);
+            BranchReply {
+                reply: Reply {
+                    number: 0,
+                    value: 1,
+                },
+                size,
+            }
+        }
+        _ => BranchReply {
+            reply: of_clique(answer),
+            size: 0,
         },
     }
 }

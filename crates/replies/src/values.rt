@@ -2,6 +2,7 @@
 
 use checkpoint_bytes::LoadAnswer;
 use checkpoint_bytes::SaveAnswer;
+use clique::CliqueAnswer;
 use graph_reader::ReadAnswer;
 use mapping::MappingAnswer;
 use search::SearchAnswer;
@@ -9,6 +10,7 @@ ghost use mathlib.Core.Path.{_≡_};
 ghost use Rattle.answers.specs.Answer.{valueOf};
 ghost use Rattle.graph_reader.specs.Answers.{readAnswer};
 ghost use Rattle.mapping.specs.Answers.{mappingOutcome};
+ghost use Rattle.clique.specs.Answers.{cliqueAnswerOf};
 ghost use Rattle.search.specs.Answers.{searchAnswer};
 ghost use Rattle.checkpoint_bytes.specs.Answers.{saveAnswer, loadAnswer};
 ghost use Rattle.replies.specs.Checked.{outcomeValue, earlierRow};
@@ -54,6 +56,18 @@ pub fn search_value(answer: SearchAnswer) -> u64
         SearchAnswer::OutOfShape => 0,
         SearchAnswer::FewWords => 0,
         SearchAnswer::ManySteps => 0,
+    }
+}
+
+// 1 where a mapping is held.
+pub fn clique_value(answer: CliqueAnswer) -> u64
+    ensures { λ r. ⌜ r ≡ valueOf (cliqueAnswerOf answer) ⌝ }
+{
+    match answer {
+        CliqueAnswer::Held => 1,
+        CliqueAnswer::NothingHeld => 0,
+        CliqueAnswer::Flawed(_) => 0,
+        CliqueAnswer::ManyVertices => 0,
     }
 }
 

@@ -1,27 +1,39 @@
 -- 01, "Marked examples to prove": all fourteen rows, and three of 02, U1, with a list, by the definitions that the contracts cite. The walk and the readings are computed;
--- that the graphs read are sound is cited, as computing it would take minutes.
+-- the graphs and that they are sound are those of `MarkedGraphs`.
 use mathlib.Core.Path.{_≡_, refl, ap, _∙_}
-use mathlib.Core.Bool.{Bool, true, false, _&&_, and-eq-true-iff}
+use mathlib.Core.Bool.{true, false}
 use mathlib.Core.List.{List, [], _∷_, _++_, append-nil}
 use mathlib.Core.Option.{Option, none, some}
-use Prim.Native.Nat.{ℕ, zero, suc, _≤_, _<_, _^_}
+use Prim.Native.Nat.{ℕ, _<_, _^_}
 use native.Mathlib.Omega.{arith}
-use lib.Dec.{leb, lit<}
-use lib.ListN.{getD, replicate, length-replicate, drop-of-length-le}
-use borrow.Author.Tests.{leb-true}
+use lib.Dec.{lit<}
+use lib.ListN.{replicate, length-replicate, drop-of-length-le}
 use Rattle.bounded.specs.Below.{allBelow, someBelow, sumBelow, runBelow}
 use Rattle.bounded.specs.First.{firstBelow}
-use Rattle.answers.specs.Answer.{Answer, passed, accepted, refused, refusedAt}
-use Rattle.graph.specs.Graph.{Graph, graph, Sound}
-use Rattle.graph_reader.specs.Reading.{Reading, reading, readFrom, judge, refuseAt}
-use Rattle.graph_reader.proofs.ReadSound.{reading-sound}
+use Rattle.answers.specs.Answer.{accepted}
+use Rattle.graph_reader.specs.Reading.{reading, readFrom, judge, refuseAt}
 use Rattle.substitutes.specs.Substitutes.{listed, agree}
 use Rattle.substitutes.specs.Soundness.{substitutesAnswer}
-use Rattle.substitutes.proofs.SoundList.{none-sound, passes-sound-list}
-use Rattle.problem.specs.Problem.{Problem, SoundProblem, problem, substituting, allowed, consistent}
+use Rattle.problem.specs.Problem.{Problem, SoundProblem, allowed, consistent}
 use Rattle.mapping.specs.Common.{mappedFrom, size}
 use Rattle.mapping.specs.Answers as outcome
 use Rattle.mapping.specs.Check.{rowFault, listOutcome}
+use Rattle.problem_reader.proofs.MarkedGraphs.{
+  readTables,
+  between,
+  pair,
+  empty,
+  one,
+  two,
+  linked,
+  unlinked,
+  listing,
+  pair-sound,
+  empty-sound,
+  one-sound,
+  linked-sound,
+  listing-sound,
+}
 use Rattle.search_tree.specs.Rules.{rulesOf}
 use Rattle.search_tree.specs.Search.{searchOf}
 use Rattle.search_tree.specs.Node.{candidate, candidates, upperBound, choices, children, choicesAfter, laterSiblings, openNodes}
@@ -32,58 +44,6 @@ use Rattle.checkpoint.specs.Checkpoints.{freshCheckpoint, checkpointOf}
 use Rattle.search.specs.Call.{Called, wordsNeeded, arrive, searchCall}
 use Rattle.search.specs.ThirdProperty.{incumbentIn}
 use Rattle.search.proofs.WalkCall.{fresh-call}
-
-abbrev orderOf : Answer → ℕ
-orderOf (accepted n) = n
-orderOf passed = 0
-orderOf (refused n) = 0
-orderOf (refusedAt n at) = 0
-
-abbrev graphOf : Reading → Graph
-graphOf r = graph (orderOf (r .answer)) (r .labels) (r .edges)
-
--- the tables lent hold 9 throughout, so that what is left in them is seen
-abbrev readTables : List ℕ → Reading
-readTables bytes = reading (replicate 64 9) (replicate 4096 9) bytes
-
-abbrev read : List ℕ → Graph
-read bytes = graphOf (readTables bytes)
-
-abbrev between : List ℕ → List ℕ → Problem
-between old new = problem (read old) (read new)
-
--- 01's P: old 1 7 1 9 1 7 2 0 1 1 2 1 2 1 0, new 1 9 1 7 2 0 1 1 0
-abbrev old : List ℕ
-old = 1 ∷ 7 ∷ 1 ∷ 9 ∷ 1 ∷ 7 ∷ 2 ∷ 0 ∷ 1 ∷ 1 ∷ 2 ∷ 1 ∷ 2 ∷ 1 ∷ 0 ∷ []
-
-abbrev new : List ℕ
-new = 1 ∷ 9 ∷ 1 ∷ 7 ∷ 2 ∷ 0 ∷ 1 ∷ 1 ∷ 0 ∷ []
-
-abbrev pair : Problem
-pair = between old new
-
-abbrev empty : List ℕ
-empty = 0 ∷ []
-
--- one part of kind 7; two of kind 7; 7 and 9 linked by 1; 7 and 9 unlinked
-abbrev one : List ℕ
-one = 1 ∷ 7 ∷ 0 ∷ []
-
-abbrev two : List ℕ
-two = 1 ∷ 7 ∷ 1 ∷ 7 ∷ 0 ∷ []
-
-abbrev linked : List ℕ
-linked = 1 ∷ 7 ∷ 1 ∷ 9 ∷ 2 ∷ 0 ∷ 1 ∷ 1 ∷ 0 ∷ []
-
-abbrev unlinked : List ℕ
-unlinked = 1 ∷ 7 ∷ 1 ∷ 9 ∷ 0 ∷ []
-
-abbrev nine : List ℕ
-nine = 1 ∷ 9 ∷ 0 ∷ []
-
--- one part of kind 7 against one of kind 9, with these substitutes
-abbrev listing : List ℕ → Problem
-listing list = substituting list (between one nine)
 
 -- just the words needed, each holding 9
 unfoldable pub workspace : List ℕ
@@ -103,20 +63,6 @@ Ends P minimum steps incumbent top =
     }
 
 -- ---- from the walk to the call
-
--- every entry is a byte
-unfoldable pub bytes : List ℕ → Bool
-bytes [] = true
-bytes (b ∷ l) = leb b 255 && bytes l
-
-pub bytes-small : (l : List ℕ) → bytes l ≡ true → (i : ℕ) → getD l i 0 ≤ 255
-unfolding bytes
-bytes-small [] e i = omega arith
-bytes-small (b ∷ l) e zero = leb-true b 255 (and-eq-true-iff (leb b 255) (bytes l) .0 e .0)
-bytes-small (b ∷ l) e (suc i) = bytes-small l (and-eq-true-iff (leb b 255) (bytes l) .0 e .1) i
-
-read-sound : (l : List ℕ) → bytes l ≡ true → (n : ℕ) → readTables l .answer ≡ accepted n → Sound (read l)
-read-sound l small n e = rw e (reading-sound (replicate 64 9) (replicate 4096 9) l (bytes-small l small) n e)
 
 module _ (P : Problem) (sound : SoundProblem P) (minimum budget : ℕ) (fits : budget < 2 ^ 64) where
   arrives : call P minimum budget ≡ arrive minimum (rulesOf P) workspace (after (searchOf P) minimum budget)
@@ -144,37 +90,6 @@ ends P sound minimum steps incumbent top walk above = λ i. record {
   checkpoint = checkpoint-at P sound minimum 100 (lit< tt) _ walk i;
   workspace = clears P sound minimum 100 (lit< tt) i;
 }
-
--- what is read from bytes without a fault is a sound problem
-between-sound : (l k : List ℕ) → bytes l ≡ true → bytes k ≡ true → (n m : ℕ) → readTables l .answer ≡ accepted n → readTables k .answer ≡ accepted m
-    → SoundProblem (between l k)
-between-sound l k sl sk n m el ek = record {
-  old-sound = read-sound l sl n el;
-  new-sound = read-sound k sk m ek;
-  substitutes-sound = none-sound;
-}
-
-pair-sound : SoundProblem pair
-unfolding reading readFrom judge bytes
-pair-sound = between-sound old new refl refl 3 2 refl refl
-
-empty-sound : SoundProblem (between empty empty)
-unfolding reading readFrom judge bytes
-empty-sound = between-sound empty empty refl refl 0 0 refl refl
-
-one-sound : SoundProblem (between one two)
-unfolding reading readFrom judge bytes
-one-sound = between-sound one two refl refl 1 2 refl refl
-
-linked-sound : SoundProblem (between linked unlinked)
-unfolding reading readFrom judge bytes
-linked-sound = between-sound linked unlinked refl refl 2 2 refl refl
-
-listing-sound : (list : List ℕ) → substitutesAnswer list ≡ passed → SoundProblem (listing list)
-unfolding reading readFrom judge bytes
-listing-sound list e =
-    let graphs = between-sound one nine refl refl 1 1 refl refl in
-    record { old-sound = graphs .old-sound; new-sound = graphs .new-sound; substitutes-sound = passes-sound-list list e }
 
 -- ---- the rows
 

@@ -16,7 +16,7 @@ use Rattle.search_tree.proofs.Shape.{visit-shape}
 use Rattle.checkpoint.specs.declared.Checkpoint.{Checkpoint}
 use Rattle.search.specs.declared.walk.Place.{Place}
 use Rattle.search.specs.declared.walk.Walk.{Walk}
-use Rattle.checkpoint.specs.Checkpoints.{checkpointOf, stateOf, InShape}
+use Rattle.checkpoint.specs.Checkpoints.{checkpointOf, stateOf}
 use Rattle.search.specs.Words.{First, Words}
 use Rattle.search.specs.Walking.{Setting, AtNode, InBounds, Ready, Arrives, Bounded, RestZero, Descends, Retreats, Resumes}
 use Rattle.checkpoint.proofs.CheckpointState.{checkpoint-tidy}

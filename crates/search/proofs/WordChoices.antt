@@ -1,13 +1,11 @@
 -- The choices of a row, read off its word: the least member comes first, the least member above a choice comes next, and 255 comes last.
 use mathlib.Core.Path.{_≡_, refl, sym, ap, _∙_}
-use mathlib.Core.Logic.{⊎-elim}
-use mathlib.Core.Bool.{Bool, true, false, _&&_}
+use mathlib.Core.Bool.{Bool, true, false, not, _&&_}
 use mathlib.Core.List.{List, [], _∷_, _++_, map}
-use Prim.Native.Nat.{ℕ, zero, suc, _+_, _≤_, _<_}
-use native.Mathlib.Nat.{le-refl, le-of-suc-le-suc, not-suc-le-zero, eq-or-lt-of-le}
+use Prim.Native.Nat.{ℕ, _+_, _≤_, _<_}
 use native.Mathlib.Numerals.{add-one}
 use native.Mathlib.Omega.{arith}
-use lib.Dec.{ltb}
+use lib.Dec.{ltb, eqb}
 use lib.ListN.{length, getD, take}
 use lib.Seq.{length-take-le, take-length}
 use borrow.Author.Tests.{ltb-true, lt-ltb, le-ltb, lt-leb}
@@ -15,41 +13,23 @@ use Rattle.bitset.specs.Members.{member}
 use Rattle.bitset.specs.Least.{leastMember, leastAbove}
 use Rattle.bitset.specs.declared.Least.the-variants.{Member, Empty}
 use Rattle.bitset.proofs.LeastBelow.{leastBelow-Member, leastBelow-Empty, leastAbove-Member, leastAbove-Empty}
-use Rattle.bounded.specs.Below.{runBelow}
 use Rattle.problem.specs.Problem.{Problem, SoundProblem}
 use Rattle.mapping.specs.Common.{unmapped, size}
 use Rattle.search_tree.specs.Rules.{Rules, rulesOf}
 use Rattle.search_tree.specs.Node.{candidate, candidates, choices, extend, children, choicesAfter, laterSiblings, listIf}
-use Rattle.search_tree.proofs.Passing.{passing}
+use Rattle.search_tree.proofs.Passing.{passing, passing-none, passing-least}
 use Rattle.search_tree.proofs.Candidates.{candidate-value}
 use Rattle.search_tree.proofs.Children.{children-inner}
 use Rattle.search_tree.proofs.Choices.{choicesAfter-first, choicesAfter-next}
 use Rattle.search.specs.Words.{levelWord, Words}
 use Rattle.search.proofs.WordLevels.{row-member}
 
--- where no number below n passes, the list is empty
-passing-none : (n : ℕ) (t : ℕ → Bool) → ((i : ℕ) → i < n → t i ≡ false) → passing n t ≡ []
-unfolding runBelow
-passing-none zero t none = refl
-passing-none (suc n) t none = rw (passing-none n t (λ i h. none i (omega arith)), none n (le-refl (suc n)))
-
--- the least number that passes comes first
-passing-least : (n : ℕ) (t : ℕ → Bool) (v : ℕ) → v < n → t v ≡ true → ((i : ℕ) → i < v → t i ≡ false)
-    → (rest : List ℕ) × (passing n t ≡ v ∷ rest)
-unfolding runBelow
-passing-least zero t v h e first = absurd (not-suc-le-zero h)
-passing-least (suc n) t v h e first =
-    ⊎-elim
-    (λ (q : v ≡ n). ([], rw (← q, passing-none v t first, e)))
-    (λ l. let before = passing-least n t v l e first in (before .0 ++ listIf (t n) n, rw (before .1)))
-    (eq-or-lt-of-le (le-of-suc-le-suc h))
-
 module _ (R : Rules) (few : R .values ≤ unmapped) (q : List ℕ) where
   -- After 255 there is no choice.
   pub choicesAfter-left-out : choicesAfter R q unmapped ≡ []
   unfolding choicesAfter
   choicesAfter-left-out =
-      rw (passing-none (R .values) (λ v. ltb unmapped v && candidate R q (length q) v) (λ v h. rw (le-ltb unmapped v (omega arith))))
+      rw (passing-none (λ v. ltb unmapped v && candidate R q (length q) v) (R .values) (λ v h. rw (le-ltb unmapped v (omega arith))))
 
   -- the least candidate comes first
   choices-least : (v : ℕ) → candidate R q (length q) v ≡ true → ((i : ℕ) → i < v → candidate R q (length q) i ≡ false)
@@ -57,13 +37,14 @@ module _ (R : Rules) (few : R .values ≤ unmapped) (q : List ℕ) where
   unfolding choices candidates
   choices-least v c first =
       let found = passing-least (R .values) (candidate R q (length q)) v (candidate-value R q (length q) v c) c first in
-      let all : choices R q ≡ v ∷ (found .0 ++ (unmapped ∷ [])) = rw (found .1) in
+      let rest = passing (R .values) (λ i. not (eqb i v) && candidate R q (length q) i) in
+      let all : choices R q ≡ v ∷ (rest ++ (unmapped ∷ [])) = rw found in
       all ∙ ap (λ (l : List ℕ). v ∷ l) (sym (choicesAfter-first R q few v _ all))
 
   -- without a candidate there is 255 alone
   choices-none : ((i : ℕ) → i < R .values → candidate R q (length q) i ≡ false) → choices R q ≡ unmapped ∷ []
   unfolding choices candidates
-  choices-none none = rw (passing-none (R .values) (candidate R q (length q)) none)
+  choices-none none = rw (passing-none (candidate R q (length q)) (R .values) none)
 
   -- the least candidate above w comes next after w
   after-least : (w v : ℕ) → w < v → candidate R q (length q) v ≡ true → ((i : ℕ) → w < i → i < v → candidate R q (length q) i ≡ false)
@@ -72,7 +53,8 @@ module _ (R : Rules) (few : R .values ≤ unmapped) (q : List ℕ) where
   after-least w v h c first =
       let test : ℕ → Bool = λ i. ltb w i && candidate R q (length q) i in
       let found = passing-least (R .values) test v (candidate-value R q (length q) v c) (rw (lt-ltb w v h) c) (λ i l. fails i l (ltb w i) refl) in
-      let all : choicesAfter R q w ≡ v ∷ (found .0 ++ listIf (ltb w unmapped) unmapped) = rw (found .1) in
+      let rest = passing (R .values) (λ i. not (eqb i v) && test i) in
+      let all : choicesAfter R q w ≡ v ∷ (rest ++ listIf (ltb w unmapped) unmapped) = rw found in
       all ∙ ap (λ (l : List ℕ). v ∷ l) (sym (choicesAfter-next R q few w v _ all))
     where
       fails : (i : ℕ) → i < v → (b : Bool) → ltb w i ≡ b → b && candidate R q (length q) i ≡ false
@@ -84,7 +66,7 @@ module _ (R : Rules) (few : R .values ≤ unmapped) (q : List ℕ) where
       → choicesAfter R q w ≡ unmapped ∷ []
   unfolding choicesAfter
   after-none w h none =
-      rw (passing-none (R .values) (λ i. ltb w i && candidate R q (length q) i) (λ i l. fails i l (ltb w i) refl), lt-ltb w unmapped h)
+      rw (passing-none (λ i. ltb w i && candidate R q (length q) i) (R .values) (λ i l. fails i l (ltb w i) refl), lt-ltb w unmapped h)
     where
       fails : (i : ℕ) → i < R .values → (b : Bool) → ltb w i ≡ b → b && candidate R q (length q) i ≡ false
       fails i l true e = none i (ltb-true w i e) l

@@ -1,17 +1,15 @@
 -- What the search's code holds between two visits: a checkpoint with its pairs and its cutoff counted, and the words of its path's ancestors
 -- (01, "The walk" and "Bookmark and calls").
 use mathlib.Core.Path.{_≡_}
-use mathlib.Core.Bool.{true, false, cond}
+use mathlib.Core.Bool.{true, false}
 use mathlib.Core.Logic.{_⊎_}
 use mathlib.Core.List.{List, [], _∷_, map}
-use mathlib.Core.Option.{Option, none, some}
 use Prim.Native.Nat.{ℕ, suc, _+_, _-_, _^_, _≤_, _<_}
 use lib.ListN.{length, getD, take}
 use Rattle.graph.specs.Graph.{graph}
 use Rattle.problem.specs.Problem.{Problem, SoundProblem}
 use Rattle.mapping.specs.Common.{unmapped, size}
 use Rattle.search_tree.specs.Rules.{Rules, rulesOf}
-use Rattle.search_tree.specs.Search.{searchOf}
 use Rattle.search_tree.specs.Node.{upperBound, extend, children, choicesAfter, laterSiblings}
 use Rattle.search_tree.specs.Trees.{Reached}
 use Rattle.search_tree.specs.Walk.{State, cutoff}

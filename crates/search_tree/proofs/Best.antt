@@ -1,9 +1,9 @@
--- There is one best mapping, and it depends only on which mappings count.
+-- There is one best mapping, it depends only on which mappings count, and there is none exactly where no such mapping reaches the minimum.
 use mathlib.Core.Path.{_≡_, refl, sym, ap}
 use mathlib.Core.Logic.{_↔_, ⊎-elim}
 use mathlib.Core.List.{List}
 use mathlib.Core.Option.{Option, none, some}
-use Prim.Native.Nat.{ℕ}
+use Prim.Native.Nat.{ℕ, _<_}
 use native.Mathlib.Omega.{arith}
 use Rattle.mapping.specs.Common.{size}
 use Rattle.mapping.proofs.Order.{before-asymmetric}
@@ -34,3 +34,9 @@ best-unique (some g) (some h) p q = ap {B = Option (List ℕ)} some same
     same = ⊎-elim (λ e. e)
         (λ hg. ⊎-elim (λ e. sym e) (λ gh. absurd (before-asymmetric h g hg gh)) (p .first g refl h (q .good h refl) (sym size-same)))
         (q .first h refl g (p .good g refl) size-same)
+
+-- Nothing is best exactly where no mapping that counts reaches the minimum.
+pub best-none : {Good : List ℕ → Type 0} {minimum : ℕ} (incumbent : Option (List ℕ)) → Best Good minimum incumbent
+    → (incumbent ≡ none) ↔ ((l : List ℕ) → Good l → size l < minimum)
+best-none none b = (b .none-reaches, λ low. refl)
+best-none (some h) b = (b .none-reaches, λ low. absurd (omega (arith, b .reaches h refl, low h (b .good h refl))))

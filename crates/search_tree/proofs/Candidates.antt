@@ -1,14 +1,14 @@
 -- The candidates of a row: what one is, what one more decided row does to them, and that they rise.
 use mathlib.Core.Path.{_≡_, refl, sym, ap, ap₂, _∙_}
 use mathlib.Core.Logic.{_↔_}
-use mathlib.Core.Bool.{Bool, true, _&&_, _||_, and-eq-true-iff, and-assoc, false≢true}
+use mathlib.Core.Bool.{Bool, true, false, _&&_, _||_, and-eq-true-iff, and-assoc, false≢true}
 use mathlib.Core.List.{List, [], _∷_, List·Memᴰ, List·Memᴰ·head, List·Memᴰ·not-nil}
-use Prim.Native.Nat.{ℕ, suc, _<_}
+use Prim.Native.Nat.{ℕ, suc, _≤_, _<_}
 use native.Mathlib.Omega.{arith}
 use lib.Dec.{ltb, eqb}
 use lib.ListN.{length, getD, length-append, List·getD-append}
 use lib.Seq.{getD-append-seam}
-use borrow.Author.Tests.{ltb-true}
+use borrow.Author.Tests.{ltb-true, le-ltb}
 use Rattle.bounded.specs.Below.{allBelow}
 use Rattle.bounded.proofs.AllBelow.{allBelow-true}
 use Rattle.mapping.specs.Common.{unmapped}
@@ -48,6 +48,11 @@ module _ (R : Rules) where
     candidate-value v e =
         let value = ltb v (R .values) in
         ltb-true v (R .values) (and-eq-true-iff value (R .allowed r v) .0 (and-eq-true-iff (value && R .allowed r v) _ .0 e .0) .0)
+
+    -- What is no value is no candidate.
+    pub candidate-outside : (v : ℕ) → R .values ≤ v → candidate R path r v ≡ false
+    unfolding candidate
+    candidate-outside v h = rw (le-ltb v (R .values) h) refl
 
     -- A candidate may stand beside each decided row.
     pub candidate-fits : (v : ℕ) → candidate R path r v ≡ true → (i : ℕ) → i < length path → fits R path r v i ≡ true

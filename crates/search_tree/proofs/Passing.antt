@@ -1,7 +1,7 @@
 -- The numbers below a bound that pass a test: as a list, which rises, and counted.
 use mathlib.Core.Path.{_≡_, refl, _∙_}
 use mathlib.Core.Logic.{⊎-elim}
-use mathlib.Core.Bool.{Bool, true, false, cond, not, _&&_, and-true}
+use mathlib.Core.Bool.{Bool, true, false, cond, not, _&&_, and-true, and-false}
 use mathlib.Core.List.{
   List,
   [],
@@ -18,7 +18,7 @@ use mathlib.Core.List.{
   Memᴰ·append-right,
 }
 use Prim.Native.Nat.{ℕ, zero, suc, _+_, _≤_, _<_}
-use native.Mathlib.Nat.{not-suc-le-zero, le-of-suc-le-suc, eq-or-lt-of-le}
+use native.Mathlib.Nat.{le-refl, not-suc-le-zero, le-of-suc-le-suc, eq-or-lt-of-le, zero-add, suc-add}
 use native.Mathlib.Omega.{arith}
 use lib.Dec.{eqb}
 use lib.ListN.{length}
@@ -96,6 +96,12 @@ module _ (t : ℕ → Bool) where
       (λ l. Memᴰ·append-left (listIf (t n) n) (passes-mem n l e))
       (eq-or-lt-of-le (le-of-suc-le-suc h))
 
+  -- Where no number below the bound passes, the list is empty.
+  pub passing-none : (n : ℕ) → ((i : ℕ) → i < n → t i ≡ false) → passing n t ≡ []
+  unfolding runBelow
+  passing-none zero none = refl
+  passing-none (suc n) none = rw (passing-none n (λ i h. none i (omega arith)), none n (le-refl (suc n)))
+
   -- The list rises.
   pub rising-passing : (n : ℕ) → Rising (passing n t)
   unfolding runBelow
@@ -105,3 +111,27 @@ module _ (t : ℕ → Bool) where
       go : (b : Bool) → Rising (passing n t) → Rising (passing n t ++ listIf b n)
       go true r = rising-snoc (passing n t) n r (λ b m. mem-passes n m .0)
       go false r = rw append-nil r
+
+-- The list depends only on which numbers pass.
+pub passing-agree : (n : ℕ) (t u : ℕ → Bool) → ((i : ℕ) → i < n → t i ≡ u i) → passing n t ≡ passing n u
+unfolding runBelow
+passing-agree zero t u same = refl
+passing-agree (suc n) t u same = rw (passing-agree n t u (λ i h. same i (omega arith)), same n (le-refl (suc n)))
+
+-- The least number that passes comes first, and then the others.
+pub passing-least : (n : ℕ) (t : ℕ → Bool) (v : ℕ) → v < n → t v ≡ true → ((i : ℕ) → i < v → t i ≡ false)
+    → passing n t ≡ v ∷ passing n (λ i. not (eqb i v) && t i)
+unfolding runBelow
+passing-least zero t v h e first = absurd (not-suc-le-zero h)
+passing-least (suc n) t v h e first =
+    ⊎-elim
+    (λ (q : v ≡ n).
+    rw (← q, passing-none t v first, passing-none (λ i. not (eqb i v) && t i) v (λ i l. rw (first i l, and-false)), eq-eqb v v refl, e))
+    (λ l. rw (passing-least n t v l e first, ne-eqb n v (omega arith)))
+    (eq-or-lt-of-le (le-of-suc-le-suc h))
+
+-- Numbers that do not pass may stand behind the bound.
+pub passing-beyond : (k n : ℕ) (t : ℕ → Bool) → ((i : ℕ) → n ≤ i → t i ≡ false) → passing (k + n) t ≡ passing n t
+unfolding runBelow
+passing-beyond zero n t none = rw zero-add
+passing-beyond (suc k) n t none = rw (suc-add, none (k + n) (omega arith), append-nil) (passing-beyond k n t none)

@@ -18,6 +18,7 @@ use harness::library::{self, CHECKPOINT_BYTES, MAX_VERTICES, SUBSTITUTES_BYTES, 
 use harness::panels;
 use harness::random::Random;
 use harness::reference::{Checkpoint, Graph, Problem, Substitutes};
+use harness::timing::timed;
 
 /// A walk of 20 million visits is timed in slices.
 const SLICES: usize = 20;
@@ -394,30 +395,4 @@ impl LibrarySearch {
 fn accepted(answer: Answer) -> Answer {
     assert!(answer.is_accepted(), "refused: {answer:?}");
     answer
-}
-
-fn timed(work: impl FnOnce()) -> Duration {
-    let begin = processor_time();
-    work();
-    processor_time() - begin
-}
-
-/// What this process has had of the processor (Linux, 64 bits).
-fn processor_time() -> Duration {
-    #[repr(C)]
-    struct Timespec {
-        seconds: u64,
-        nanoseconds: u64,
-    }
-    extern "C" {
-        fn clock_gettime(clock: i32, time: *mut Timespec) -> i32;
-    }
-    const CLOCK_PROCESS_CPUTIME_ID: i32 = 2;
-    let mut time = Timespec {
-        seconds: 0,
-        nanoseconds: 0,
-    };
-    let status = unsafe { clock_gettime(CLOCK_PROCESS_CPUTIME_ID, &raw mut time) };
-    assert_eq!(status, 0, "the processor's time cannot be read");
-    Duration::from_secs(time.seconds) + Duration::from_nanos(time.nanoseconds)
 }

@@ -107,25 +107,31 @@ fn summarise(judges: &[Judge]) {
     println!("all      {total:7} comparisons");
     let answers = sums(judges.iter().map(|judge| &judge.answers));
     println!("answers  {}", listed(answers));
-    let faults = list_faults(judges);
-    for fault in LIST_FAULTS {
+    let faults = faults(judges);
+    for (fault, _) in FAULTS {
         let of_it = faults.iter().filter(|((number, _), _)| *number == fault);
         let beside = of_it.map(|(&(_, beside), &times)| (beside, times));
         println!("{fault} with  {}", listed(beside));
     }
 }
 
-/// The numbers of a list's faults.
-const LIST_FAULTS: [u32; 2] = [23, 24];
-/// What else may be wrong with a call whose list is at fault: nothing (0), something of a graph,
-/// which comes before it, or each of the faults that come after it.
-const BESIDE: [u32; 15] = [0, 1, 2, 5, 9, 13, 14, 15, 16, 17, 18, 19, 20, 21, 22];
+/// The faults of a list, and too many old vertices for clique branching. Each with what else may be
+/// wrong with such a call: nothing (0), something of a graph, which comes before it, or each of the
+/// faults that come before it or after it.
+const FAULTS: [(u32, &[u32]); 3] = [
+    (23, BESIDE_LIST),
+    (24, BESIDE_LIST),
+    (25, &[0, 1, 2, 5, 9, 13, 23, 24]),
+];
+const BESIDE_LIST: &[u32] = &[0, 1, 2, 5, 9, 13, 14, 15, 16, 17, 18, 19, 20, 21, 22, 25];
 
-/// The faults that never came: each list's with each other one, and a search that goes on under
+/// The faults that never came: each of these with each other one, and a search that goes on under
 /// another list, taken and refused.
 fn missing(judges: &[Judge]) -> Vec<String> {
-    let faults = list_faults(judges);
-    let pairs = LIST_FAULTS.into_iter().flat_map(|f| BESIDE.map(|b| (f, b)));
+    let faults = faults(judges);
+    let pairs = FAULTS
+        .into_iter()
+        .flat_map(|(fault, beside)| beside.iter().map(move |&other| (fault, other)));
     let never = pairs.filter(|pair| !faults.contains_key(pair));
     let mut missing: Vec<String> = never.map(|(f, b)| format!("{f} with {b}")).collect();
     let relisted = KINDS.iter().position(|kind| kind.name == "relisted");
@@ -138,8 +144,8 @@ fn missing(judges: &[Judge]) -> Vec<String> {
     missing
 }
 
-fn list_faults(judges: &[Judge]) -> BTreeMap<(u32, u32), u64> {
-    sums(judges.iter().map(|judge| &judge.list_faults))
+fn faults(judges: &[Judge]) -> BTreeMap<(u32, u32), u64> {
+    sums(judges.iter().map(|judge| &judge.faults))
 }
 
 fn sums<'a, K: Copy + Ord + 'a>(

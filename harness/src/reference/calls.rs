@@ -1,6 +1,6 @@
-//! The five functions of include/golfcedar.h: their answers, and what they leave in lent memory.
+//! The six functions of include/golfcedar.h: their answers, and what they leave in lent memory.
 
-use super::{advance, ceiling, check, entries_from_bytes, entries_to_bytes, size};
+use super::{advance, ceiling, check, clique_branch, entries_from_bytes, entries_to_bytes, size};
 use super::{Checkpoint, Graph, Problem, Reason, Refusal};
 use crate::answer::Answer;
 
@@ -75,6 +75,26 @@ pub fn read_out(
         })
     });
     answer(read)
+}
+
+pub fn clique(
+    old: &[u8],
+    new: &[u8],
+    substitutes: &[u8],
+    minimum: u8,
+    mapping: &mut [u8],
+) -> Answer {
+    let branched = Problem::parse(old, new, substitutes).and_then(|problem| {
+        let Some(held) = clique_branch(&problem, minimum)? else {
+            return Ok(Answer::accepted(0));
+        };
+        fill(mapping, &entries_to_bytes(&held))?;
+        Ok(Answer {
+            size: size(&held) as u64,
+            ..Answer::accepted(1)
+        })
+    });
+    answer(branched)
 }
 
 fn may_advance(checkpoint: &Checkpoint, budget: u64, workspace: &[u64]) -> Result<(), Refusal> {

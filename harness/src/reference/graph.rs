@@ -75,6 +75,14 @@ impl Graph {
         Ok(())
     }
 
+    /// The graph on the first vertices, so many of them or all.
+    pub fn first(&self, count: usize) -> Graph {
+        Graph {
+            labels: self.labels.iter().copied().take(count).collect(),
+            edges: self.edges.iter().take(count).cloned().collect(),
+        }
+    }
+
     /// 01's n.
     pub fn order(&self) -> usize {
         self.labels.len()

@@ -59,9 +59,9 @@ put-entries-requires c κs =
     let room = at-room (at-search c) in
     let held = room .before in
     let s = at-entry held in
-    let few : held .entries-held .result ≤ 64 =
-    omega (arith, held .entries-held .ensures, incumbent-few (asked s .old .order) (s .args .checkpoint .holds), s .pre) in
-    (incumbent-long s, few, room .if1 .left)
+    let few : held .entries-held .result ≤ length (s .args .checkpoint .incumbent) =
+    omega (arith, held .entries-held .ensures, incumbent-few (asked s .old .order) (s .args .checkpoint .holds), s .pre, incumbent-long s) in
+    (few, room .if1 .left)
 
 state-byte-requires : tie.Need-state-byte-requires
 state-byte-requires c κs = search needs

@@ -1,6 +1,5 @@
 -- `replies::held::put_entries` meets its contract: the entries are stored, then counted. Assumes nothing.
 use mathlib.Core.Path.{sym}
-use native.Mathlib.Omega.{arith}
 use lib.Seq.{length-take-le}
 use borrow.Author.Needs.{needs}
 use Rattle.replies.proofs.held.put_entries.Statement.{statement}
@@ -12,7 +11,7 @@ put-front-requires c κs = search needs
 slice-aggregate-mapping-size : tie.Need-slice-aggregate-mapping-size
 slice-aggregate-mapping-size c =
     let s = c .before .before .before .before .before .before .before in
-    sym (length-take-le (s .args .k) (s .args .list .now) (omega (arith, s .pre .0, s .pre .1)))
+    sym (length-take-le (s .args .k) (s .args .list .now) (s .pre .0))
 
 mapping-size-requires : tie.Need-mapping-size-requires
 mapping-size-requires c κs = search needs

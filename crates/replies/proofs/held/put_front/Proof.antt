@@ -18,8 +18,8 @@ abbrev μ-loop : tie.MeasureT-loop
 μ-loop list k out₀ i₀ out i = k - i
 
 -- Storing the next entry stores one entry more of the list.
-put-more : (list out₀ : List ℕ) (i : ℕ) → length list ≡ 64 → suc i ≤ 64 → set (sets out₀ 0 (take i list)) i (getD list i 0) ≡ sets out₀ 0 (take (i + 1) list)
-put-more list out₀ i long h =
+put-more : (list out₀ : List ℕ) (i : ℕ) → suc i ≤ length list → set (sets out₀ 0 (take i list)) i (getD list i 0) ≡ sets out₀ 0 (take (i + 1) list)
+put-more list out₀ i h =
     let whole : length (take i list) ≡ i = length-take-le i list (omega arith) in
     sym
     (ap (λ (j : ℕ). sets out₀ 0 (take j list)) (add-one i)
@@ -46,7 +46,7 @@ loop-again : tie.Need-loop-again Inv-loop μ-loop
 loop-again c =
     let l = c .before .before .loop in
     let start = c .before .before .before in
-    let next = put-more (start .args .list .now) (start .args .out .now) (l .i) (start .pre .0) (omega arith) in
+    let next = put-more (start .args .list .now) (start .args .out .now) (l .i) (omega arith) in
     let bytes = ap (λ (o : List ℕ). set o (l .i) (getD (start .args .list .now) (l .i) 0)) (l .inv .1) ∙ next in
     (search needs, bytes, ap length bytes ∙ length-sets _ 0 (take (l .i + 1) (start .args .list .now)))
 

@@ -1,0 +1,92 @@
+-- `c_api::golfcedar_clique` meets its contract: the graphs are read, then cliqueReply on (`ReadArms`). Assumes nothing.
+use Rattle.problem_reader.proofs.ReadProblem.{problem-read, problem-refused}
+use Rattle.c_api.proofs.ReadArms.{clique-refused, clique-read}
+use borrow.Author.Needs.{needs}
+use Rattle.c_api.proofs.golfcedar_clique.Statement.{statement}
+use Rattle.c_api.proofs.golfcedar_clique.Tie as tie
+
+-- the way back from what is known of the tables to the reading
+abbrev at-read : tie.After-new-edges2 → tie.After-read-problem
+at-read c = c .before .before .before .before
+
+abbrev at-orders : tie.After-branch → tie.After-old-order
+at-orders c = c .before .before .before .before .before .before .before
+
+slice-aggregate-read-problem : tie.Need-slice-aggregate-read-problem
+slice-aggregate-read-problem c = search needs
+
+slice-aggregate-read-problem-2 : tie.Need-slice-aggregate-read-problem-2
+slice-aggregate-read-problem-2 c = search needs
+
+slice-aggregate-read-problem-3 : tie.Need-slice-aggregate-read-problem-3
+slice-aggregate-read-problem-3 c = search needs
+
+slice-aggregate-read-problem-4 : tie.Need-slice-aggregate-read-problem-4
+slice-aggregate-read-problem-4 c = search needs
+
+read-problem-requires : tie.Need-read-problem-requires
+read-problem-requires c κs = search needs
+
+enum-known-refusal : tie.Need-enum-known-refusal
+enum-known-refusal c = search needs
+
+of-read-requires : tie.Need-of-read-requires
+of-read-requires c κs = search needs
+
+enum-known-old-order : tie.Need-enum-known-old-order
+enum-known-old-order c = search needs
+
+slice-aggregate-t30 : tie.Need-slice-aggregate-t30
+slice-aggregate-t30 c = search needs
+
+slice-aggregate-t32 : tie.Need-slice-aggregate-t32
+slice-aggregate-t32 c = search needs
+
+slice-aggregate-t35 : tie.Need-slice-aggregate-t35
+slice-aggregate-t35 c = search needs
+
+slice-aggregate-t37 : tie.Need-slice-aggregate-t37
+slice-aggregate-t37 c = search needs
+
+branch-requires : tie.Need-branch-requires
+branch-requires c κs = search needs
+
+returns : tie.Need-returns
+returns c =
+    let arm = c .before .before in
+    let g = at-read (arm .before .before) in
+    clique-refused _ _ _ _ _ _ _ (c .of-read .ensures)
+    (problem-refused _ _ (g .read-problem .result) _ _ _ _ (g .read-problem .ensures) _ (arm .refusal .given .1))
+
+same-length : tie.Need-same-length
+same-length c = search needs
+
+returns-2 : tie.Need-returns-2
+returns-2 c =
+    let call = c .before .before in
+    let arm = at-orders call in
+    let g = at-read (arm .before .before) in
+    clique-read _ _ _ _ _
+    _ (problem-read _ _ (g .read-problem .result) _ _ _ _ (g .read-problem .ensures) _ _ (arm .old-order .given .1))
+    _ (call .branch .ensures)
+
+pub golfcedar-clique-spec : {M : Type 1} → statement M
+golfcedar-clique-spec =
+    tie.close
+    (tie.spec
+    slice-aggregate-read-problem
+    slice-aggregate-read-problem-2
+    slice-aggregate-read-problem-3
+    slice-aggregate-read-problem-4
+    read-problem-requires
+    enum-known-refusal
+    of-read-requires
+    enum-known-old-order
+    slice-aggregate-t30
+    slice-aggregate-t32
+    slice-aggregate-t35
+    slice-aggregate-t37
+    branch-requires
+    returns
+    same-length
+    returns-2)

@@ -1,0 +1,96 @@
+-- The search by what the code is lent is the search of the problem that was lent: the sets of vertices whose labels agree give the same candidates.
+use mathlib.Core.Path.{_≡_, refl, sym, ap, _∙_}
+use mathlib.Core.Bool.{Bool, true, false, _&&_, true≢false}
+use mathlib.Core.List.{List, [], _∷_, _++_}
+use mathlib.Core.Option.{Option, none}
+use Prim.Native.Nat.{ℕ, zero, suc, _+_, _*_, _≤_, _<_}
+use native.Mathlib.Decide.{decLt}
+use native.Mathlib.Omega.{arith}
+use lib.Dec.{ltb}
+use lib.ListN.{length, getD, length-append}
+use borrow.Author.Tests.{ltb-true}
+use Rattle.bitset.specs.Members.{member, setOf}
+use Rattle.bitset.proofs.SetOf.{member-setOf, member-setOf-above}
+use Rattle.substitutes.specs.Agreeing.{Agreeing}
+use Rattle.problem.specs.Problem.{SoundProblem, compareVertices, allowed, consistent}
+use Rattle.problem.specs.Lent.{Tables, tableAt, lent}
+use Rattle.problem.proofs.VertexSets.{agreeing-vertices, vertex-member, vertex-allowed}
+use Rattle.problem.proofs.Consistent.{allowed-facts}
+use Rattle.mapping.specs.Common.{unmapped}
+use Rattle.search_tree.specs.Rules.{Rules, rulesOf}
+use Rattle.bounded.specs.Below.{allBelow}
+use Rattle.search_tree.specs.Node.{fits, candidate, candidates, choices, extend}
+use Rattle.search_tree.proofs.Passing.{passing-agree}
+use Rattle.clique.specs.Branching.{branchRow, branchChoices, branch}
+use Rattle.clique.specs.LentRules.{lentRules}
+use Rattle.clique.specs.Carried.{Small}
+use Rattle.clique.proofs.Turns.{row-end, row-turns, choices-end, choices-turns}
+
+-- what is a member of a set of numbers below 64 passes its test
+inside : (test : ℕ → Bool) (v : ℕ) → Dec (v < 64) → member (setOf 64 test) v ≡ true → test v ≡ true
+inside test v (yes h) m = sym (member-setOf 64 test v h) ∙ m
+inside test v (no h) m = absurd (true≢false (sym m ∙ member-setOf-above 64 test v (omega arith)))
+
+-- the choices of a row are searched alike where the rows after each choice are
+same-choices : (R Q : Rules) (minimum k : ℕ) (path : List ℕ)
+    → ((v : ℕ) (h : Option (List ℕ)) → branchRow R minimum (2 * k) (extend path v) h ≡ branchRow Q minimum (2 * k) (extend path v) h)
+    → (cs : List ℕ) (held : Option (List ℕ)) → branchChoices R minimum (2 * k + 1) path cs held ≡ branchChoices Q minimum (2 * k + 1) path cs held
+same-choices R Q minimum k path same [] held = choices-end R minimum (2 * k + 1) path held ∙ sym (choices-end Q minimum (2 * k + 1) path held)
+same-choices R Q minimum k path same (v ∷ cs) held =
+    choices-turns R minimum path held k v cs
+    ∙ ap (branchChoices R minimum (2 * k + 1) path cs) (same v held)
+    ∙ same-choices R Q minimum k path same cs (branchRow Q minimum (2 * k) (extend path v) held)
+    ∙ sym (choices-turns Q minimum path held k v cs)
+
+module _ (orders : List ℕ) (labels edges : Tables) (substitutes : List ℕ) {sets : List ℕ} (sound : SoundProblem (lent orders labels edges substitutes))
+    (agreed : Agreeing (tableAt labels 0) (tableAt labels 1) substitutes sets) where
+  -- What the search asks of what it is lent.
+  pub lent-small : getD orders 0 0 ≤ 8 → Small orders sets edges
+  lent-small few = record {
+    tables = (sound .old-sound .edges-length, sound .new-sound .edges-length);
+    old-max = few;
+    new-max = sound .new-sound .order-max;
+    new-vertices = λ r v row e. new-vertex r v row e (decLt v 64);
+  }
+    where
+      new-vertex : (r v : ℕ) → r < getD orders 0 0 → member (getD sets r 0) v ≡ true → Dec (v < 64) → v < getD orders 1 0
+      new-vertex r v row e d =
+          let P = lent orders labels edges substitutes in
+          let m = sym (ap (λ (set : ℕ). member set v) (vertex-allowed P (agreeing-vertices P sound agreed) r row)) ∙ e in
+          allowed-facts P r v (inside (allowed P r) v d m) .0
+
+  -- a row has the same candidates
+  same-candidate : (path : List ℕ) (r v : ℕ) → r < getD orders 0 0
+      → candidate (lentRules orders sets edges) path r v ≡ candidate (rulesOf (lent orders labels edges substitutes)) path r v
+  unfolding candidate allowed consistent
+  same-candidate path r v h = ap (λ (b : Bool). b && allBelow (length path) (fits (lentRules orders sets edges) path r v)) (go (ltb v (getD orders 1 0)) refl)
+    where
+      go : (b : Bool) → ltb v (getD orders 1 0) ≡ b
+          → (b && member (getD sets r 0) v) ≡ (b && (b && compareVertices (lent orders labels edges substitutes) r v))
+      go true e =
+          let P = lent orders labels edges substitutes in
+          let below = ltb-true _ _ e in
+          vertex-member P (agreeing-vertices P sound agreed) r h v below (omega (arith, sound .new-sound .order-max))
+      go false e = refl
+
+  -- and so the same choices
+  same-next : (path : List ℕ) → length path < getD orders 0 0
+      → choices (lentRules orders sets edges) path ≡ choices (rulesOf (lent orders labels edges substitutes)) path
+  unfolding choices candidates
+  same-next path h = ap (λ (l : List ℕ). l ++ (unmapped ∷ [])) (passing-agree (getD orders 1 0) _ _ (λ v l. same-candidate path (length path) v h))
+
+  module _ (minimum : ℕ) where
+    -- with k rows left
+    same-row : (k : ℕ) (path : List ℕ) (held : Option (List ℕ)) → length path + k ≡ getD orders 0 0
+        → branchRow (lentRules orders sets edges) minimum (2 * k) path held
+        ≡ branchRow (rulesOf (lent orders labels edges substitutes)) minimum (2 * k) path held
+    same-row zero path held all = row-end _ minimum path held ∙ sym (row-end _ minimum path held)
+    same-row (suc k) path held all =
+        row-turns _ minimum path held k
+        ∙ ap (λ (cs : List ℕ). branchChoices (lentRules orders sets edges) minimum (2 * k + 1) path cs held) (same-next path (omega arith))
+        ∙ same-choices _ _ minimum k path (λ v h. same-row k (extend path v) h (simp length-append (omega arith))) _ held
+        ∙ sym (row-turns _ minimum path held k)
+
+    -- The whole search.
+    pub lent-branch : branchRow (lentRules orders sets edges) minimum (2 * getD orders 0 0) [] none ≡ branch (lent orders labels edges substitutes) minimum
+    lent-branch = same-row (getD orders 0 0) [] none (omega arith)

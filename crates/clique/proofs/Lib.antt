@@ -1,0 +1,16 @@
+pub mod Turns
+pub mod Kept
+pub mod BranchBest
+pub mod PairLists
+pub mod Cliques
+pub mod Association
+pub mod PrintedRules
+pub mod MissingConditions
+pub mod Gathered
+pub mod LentCandidates
+pub mod WordChoices
+pub mod Carried
+pub mod Routines
+pub mod LentRules
+pub mod CliquePasses
+pub mod Examples
