@@ -18,10 +18,10 @@ use Rattle.substitutes.specs.Substitutes.{listed, agree}
 use Rattle.substitutes.specs.Soundness.{substitutesAnswer}
 use Rattle.problem.specs.Problem.{Problem, SoundProblem, allowed, consistent}
 use Rattle.problem_reader.proofs.MarkedGraphs.{bytes, between, one, two, sevens, listing, between-sound, one-sound, sevens-sound, listing-sound}
-use Rattle.mapping.specs.Common.{Common, mappedFrom, size}
+use Rattle.mapping.specs.Common.{mappedFrom, size}
 use Rattle.search_tree.specs.Node.{candidate, candidates, choices}
 use Rattle.clique.specs.Branching.{keepLarger, branchRow, branch}
-use Rattle.clique.specs.Association.{Pair, pair, pairAt, Clique, inProduct, modularVertex, modularEdge, unlabelledEdge}
+use Rattle.clique.specs.Association.{Pair, pair, pairAt, Clique, Exceeds, inProduct, modularVertex, modularEdge, unlabelledEdge}
 use Rattle.clique.proofs.Association.{branch-greatest}
 
 -- ---- a test of cliques
@@ -72,12 +72,7 @@ module _ (vertex : Pair → Bool) (edges : Pair → Pair → Bool) (c : List Pai
         connected i j hi hj ne (yes h) = earlier i j h hi .1
         connected i j hi hj ne (no h) = earlier j i (omega (arith, ne)) hj .2
 
--- the clique is larger than every common subgraph
-pub record Exceeds (P : Problem) (vertex : Pair → Bool) (edges : Pair → Pair → Bool) (c : List Pair) : Type 0 where
-  pub clique : Clique vertex edges c
-  pub smaller : (l : List ℕ) → Common P l → size l < length c
-
--- so it is where it is longer than what clique branching holds
+-- A clique is larger than every common subgraph where it is longer than what clique branching holds.
 exceeds : (P : Problem) → SoundProblem P → {vertex : Pair → Bool} {edges : Pair → Pair → Bool} (c : List Pair) → cliqueTest vertex edges c ≡ true
     → (h : List ℕ) → branch P 0 ≡ some h → size h < length c → Exceeds P vertex edges c
 exceeds P sound {vertex} {edges} c passes h e less = record {

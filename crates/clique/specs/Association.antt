@@ -8,7 +8,7 @@ use lib.Dec.{ltb, eqb}
 use lib.ListN.{length, getD, set, replicate}
 use Rattle.graph.specs.Graph.{Graph, edge}
 use Rattle.problem.specs.Problem.{Problem, compareVertices, compareEdges, allowed}
-use Rattle.mapping.specs.Common.{unmapped, mapped}
+use Rattle.mapping.specs.Common.{unmapped, mapped, size, Common}
 
 -- a vertex of the association graph: "An old part's number never serves as a new part's number"
 pub record Pair : Type 0 where
@@ -105,3 +105,10 @@ modularEdge P p q = bothOrNeither P p q && compareEdges P (p .old) (q .old) (p .
 -- (u1, u2) ∉ E1 and (v1, v2) ∉ E2". Nothing is said of labels, and the vertices are those of `inProduct`.
 abbrev pub unlabelledEdge : Problem → Pair → Pair → Bool
 unlabelledEdge P p q = apart p q && bothOrNeither P p q
+
+-- ---- what a rule lets through
+
+-- a clique by these tests that is larger than every common subgraph
+pub record Exceeds (P : Problem) (vertex : Pair → Bool) (edges : Pair → Pair → Bool) (c : List Pair) : Type 0 where
+  pub clique : Clique vertex edges c
+  pub smaller : (l : List ℕ) → Common P l → size l < length c
