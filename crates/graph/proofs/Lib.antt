@@ -1,6 +1,8 @@
 pub mod Bytes
-pub mod HalfRows
+pub mod EdgeRows
+pub mod ExactTests
 pub mod Places
 pub mod RefusalNumbers
+pub mod Runs
 pub mod SoundTests
 pub mod TablesFit

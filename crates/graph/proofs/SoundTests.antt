@@ -37,7 +37,7 @@ label-facts n labels v e = (inside, outside)
     outside h = eqb-true (getD labels v 0) 0 (simp (le-ltb v n h) at e)
 
 -- what the test of one edge asks
-abbrev EdgeFacts : ℕ → List ℕ → ℕ → ℕ → Type 0
+abbrev pub EdgeFacts : ℕ → List ℕ → ℕ → ℕ → Type 0
 EdgeFacts n edges a b =
     (getD edges (place a b) 0 ≤ 255)
     × (getD edges (place a b) 0 ≡ getD edges (place b a) 0)
@@ -82,15 +82,13 @@ labels-facts : (n : ℕ) (labels : List ℕ) → labelsSound n labels ≡ true �
 unfolding labelsSound
 labels-facts n labels e v h = label-facts n labels v (allBelow-true 64 (labelSound n labels) e v h)
 
-edges-pass : (g : Graph) → Sound g → edgesSound (g .order) (g .edges) ≡ true
+pub facts-edges : (n : ℕ) (edges : List ℕ) → ((a b : ℕ) → a < 64 → b < 64 → EdgeFacts n edges a b) → edgesSound n edges ≡ true
 unfolding edgesSound rowSound
-edges-pass g s =
-    true-allBelow 64 (rowSound (g .order) (g .edges))
-    (λ a ha. true-allBelow 64 (edgeSound (g .order) (g .edges) a)
-    (λ b hb. edge-passes (g .order) (g .edges) a b
-    (s .edge-byte a b ha hb, s .symmetric a b ha hb, λ q. rw (← q) (s .irreflexive a ha), s .within a b ha hb)))
+facts-edges n edges each =
+    true-allBelow 64 (rowSound n edges)
+    (λ a ha. true-allBelow 64 (edgeSound n edges a) (λ b hb. edge-passes n edges a b (each a b ha hb)))
 
-edges-facts : (n : ℕ) (edges : List ℕ) → edgesSound n edges ≡ true → (a b : ℕ) → a < 64 → b < 64 → EdgeFacts n edges a b
+pub edges-facts : (n : ℕ) (edges : List ℕ) → edgesSound n edges ≡ true → (a b : ℕ) → a < 64 → b < 64 → EdgeFacts n edges a b
 unfolding edgesSound rowSound
 edges-facts n edges e a b ha hb =
     edge-facts n edges a b (allBelow-true 64 (edgeSound n edges a) (allBelow-true 64 (rowSound n edges) e a ha) b hb)
@@ -104,7 +102,8 @@ sound-passes g s =
       eq-eqb (length (g .edges)) 4096 (s .edges-length),
       le-leb (g .order) 64 (s .order-max),
       labels-pass g s,
-      edges-pass g s,
+      facts-edges (g .order) (g .edges)
+          (λ a b ha hb. (s .edge-byte a b ha hb, s .symmetric a b ha hb, λ q. rw (← q) (s .irreflexive a ha), s .within a b ha hb)),
     )
 
 refused-not-passed : (number : ℕ) → refused number ≡ passed → ⊥

@@ -1,3 +1,4 @@
 pub mod Graph
 pub mod Answers
 pub mod Soundness
+pub mod EdgeRows

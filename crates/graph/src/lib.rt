@@ -1,6 +1,9 @@
 // Graphs in two lent tables, and the test of soundness.
 // A graph is a number of vertices, 64 vertex labels and 4,096 edge labels, the label of the edge of a and b at 64 * a + b.
 
+mod joined;
+mod null_edges;
+mod same_edges;
 mod table_tests;
 
 ghost use mathlib.Core.Path.{_≡_};

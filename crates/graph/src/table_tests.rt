@@ -1,12 +1,17 @@
 // The two tests of a graph's tables, 01's numbers 11 and 12.
 
+use super::EDGE_BYTES;
 use super::Label;
 use super::MAX_ORDER;
+use super::null_edges;
+use super::same_edges;
 ghost use mathlib.Core.Path.{_≡_};
-ghost use Prim.Native.Nat.{_+_, _<_};
+ghost use mathlib.Core.Logic.{_↔_};
+ghost use mathlib.Core.Bool.{true};
+ghost use Prim.Native.Nat.{_≤_, _<_};
 ghost use lib.ListN.{length};
-ghost use Rattle.bounded.specs.Below.{allBelow};
-ghost use Rattle.graph.specs.Soundness.{labelSound, labelsSound, edgeSound, edgesSound};
+ghost use Rattle.graph.specs.EdgeRows.{RowSound};
+ghost use Rattle.graph.specs.Soundness.{labelSound, labelsSound, edgesSound};
 
 // The label of v is not 0 exactly where v is a vertex of the graph.
 pub fn label_sound(order: usize, labels: &[Label], v: usize) -> bool
@@ -33,52 +38,30 @@ pub fn labels_sound(order: usize, labels: &[Label]) -> bool
     true
 }
 
-// The edge of a and b is the same both ways, and null where a and b are one vertex or one of them is no vertex of the graph.
-pub fn edge_sound(order: usize, edges: &[u8], a: usize, b: usize) -> bool
-    requires { ⌜ (length (now edges) ≡ 4096) × (a < 64) × (b < 64) ⌝ }
-    ensures { λ r. ⌜ r ≡ edgeSound order (now (edges .entry)) a b ⌝ }
+// The row of a vertex a. Its other half is looked at with the later vertices.
+fn row_sound(order: usize, edges: &[u8], a: usize) -> bool
+    requires { ⌜ (length (now edges) ≡ 4096) × (order ≤ 64) × (a < order) ⌝ }
+    ensures { λ r. ⌜ (r ≡ true) ↔ RowSound order (now (edges .entry)) a ⌝ }
 {
-    let label = edges[MAX_ORDER * a + b];
-    if label != edges[MAX_ORDER * b + a] {
+    if !same_edges::same_before(edges, a) {
         return false;
     }
-    if label == 0 {
-        return true;
-    }
-    if a == b {
+    if edges[MAX_ORDER * a + a] != 0 {
         return false;
     }
-    if order <= a {
-        return false;
-    }
-    b < order
-}
-
-// The edges of a with the vertices up to a: the test of an edge is the same both ways, so that each edge is tested once.
-pub fn row_sound(order: usize, edges: &[u8], a: usize) -> bool
-    requires { ⌜ (length (now edges) ≡ 4096) × (a < 64) ⌝ }
-    ensures { λ r. ⌜ r ≡ allBelow (a + 1) (edgeSound order (now (edges .entry)) a) ⌝ }
-{
-    let mut b = 0;
-    while b <= a {
-        if !edge_sound(order, edges, a, b) {
-            return false;
-        }
-        b += 1;
-    }
-    true
+    null_edges::columns_null(order, edges, a)
 }
 
 pub fn edges_sound(order: usize, edges: &[u8]) -> bool
-    requires { ⌜ length (now edges) ≡ 4096 ⌝ }
+    requires { ⌜ (length (now edges) ≡ 4096) × (order ≤ 64) ⌝ }
     ensures { λ r. ⌜ r ≡ edgesSound order (now (edges .entry)) ⌝ }
 {
     let mut a = 0;
-    while a < MAX_ORDER {
+    while a < order {
         if !row_sound(order, edges, a) {
             return false;
         }
         a += 1;
     }
-    true
+    null_edges::words_null(edges, MAX_ORDER * order, EDGE_BYTES)
 }

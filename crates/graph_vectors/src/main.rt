@@ -299,6 +299,65 @@ fn unsound_tables() {
     check(b"labels and edges unsound", 2, &labels, &edges);
 }
 
+fn is_sound(order: usize, labels: &[u8], edges: &[u8]) -> bool {
+    match graph::check_graph(order, labels, edges) {
+        Soundness::Sound => true,
+        Soundness::Flawed(_) => false,
+    }
+}
+
+fn labels_of(order: usize) -> [u8; 64]
+    requires { ⌜ order ≤ 64 ⌝ }
+    ensures { λ r. ⌜ 64 ≡ length r ⌝ }
+{
+    let mut labels = [0u8; 64];
+    let mut v = 0;
+    while v < order {
+        labels[v] = 7;
+        v += 1;
+    }
+    labels
+}
+
+// How many edge tables are sound, at that order, that have one byte other than 0, or two, those of an edge both ways.
+fn sound_tables(order: usize, both_ways: bool) -> usize
+    requires { ⌜ order ≤ 64 ⌝ }
+    ensures { λ r. ⌜ r ≤ 4096 ⌝ }
+{
+    let labels = labels_of(order);
+    let mut edges = [0u8; 4096];
+    let mut count = 0;
+    let mut place = 0;
+    while place < 4096 {
+        let mut other = place;
+        if both_ways {
+            other = 64 * (place % 64) + place / 64;
+        }
+        edges[place] = 5;
+        edges[other] = 5;
+        if is_sound(order, &labels, &edges) {
+            count += 1;
+        }
+        edges[place] = 0;
+        edges[other] = 0;
+        place += 1;
+    }
+    count
+}
+
+// One byte is never an edge; of all places n * (n - 1) are those of an edge of n vertices.
+fn count_tables(order: usize)
+    requires { ⌜ order ≤ 64 ⌝ }
+{
+    say(b"order ");
+    say_number(order);
+    say(b": sound with one edge byte ");
+    say_number(sound_tables(order, false));
+    say(b", with two ");
+    say_number(sound_tables(order, true));
+    say(b"\n");
+}
+
 // Two vertices and an edge, unsound where `back` is not 5 or `second` is 0, into a buffer of 8 bytes.
 fn write_short(name: &[u8], order: usize, second: u8, back: u8) {
     let mut labels = [0u8; 64];
@@ -339,5 +398,11 @@ fn main() {
     read_into_4097();
     ill_sized_tables();
     unsound_tables();
+    count_tables(0);
+    count_tables(1);
+    count_tables(7);
+    count_tables(8);
+    count_tables(57);
+    count_tables(64);
     room_for_output();
 }

@@ -1,12 +1,13 @@
 -- A number and its bytes, the lowest first, determine each other, at every width; and what the loops of `store` and `load` keep.
-use mathlib.Core.Path.{_≡_, refl, ap, ap₂, _∙_}
+use mathlib.Core.Path.{_≡_, refl, sym, ap, ap₂, _∙_}
+use mathlib.Core.Logic.{_↔_}
 use mathlib.Core.List.{List, [], _∷_, _++_, append-nil}
 use Prim.Native.Nat.{ℕ, zero, suc, _+_, _*_, _/_, _%_, _-_, _^_, _≤_, _<_}
 use native.Mathlib.Nat.{mod-lt, mod-add-div, mod-eq-of-lt, div-eq-of-lt, add-mul-mod-self-left, add-mul-div-left, div-lt-iff-lt-mul, pow-suc, pow-le-pow-right, one-le-pow, sub-zero}
 use native.Mathlib.Numerals.{add-one}
 use native.Mathlib.Omega.{arith}
 use lib.ListN.{length, take, drop, getD, set, length-set, length-take}
-use lib.Seq.{append-snoc, take-suc-set, take-all, drop-cons, getD-take, drop-length}
+use lib.Seq.{drop-nil, append-snoc, take-suc-set, take-all, drop-cons, getD-take, drop-length}
 use Rattle.little_endian.specs.LittleEndian.{littleEndian, fromLittle}
 
 -- The bytes of a number are as many as asked for.
@@ -51,6 +52,41 @@ from-little (b ∷ bytes) each =
     let high : (b + 256 * fromLittle bytes) / 256 ≡ fromLittle bytes =
     omega (arith, add-mul-div-left b (fromLittle bytes) {y = 256} (omega arith), div-eq-of-lt small) in
     ap₂ _∷_ low (ap (littleEndian (length bytes)) high ∙ from-little bytes (λ i h. each (suc i) (omega arith)))
+
+-- Two runs of bytes, equally many, that say one number are the same.
+pub fromLittle-injective : (xs ys : List ℕ) → length xs ≡ length ys
+    → ((i : ℕ) → i < length xs → getD xs i 0 < 256) → ((i : ℕ) → i < length ys → getD ys i 0 < 256)
+    → fromLittle xs ≡ fromLittle ys → xs ≡ ys
+fromLittle-injective xs ys long each-x each-y e = sym (from-little xs each-x) ∙ ap₂ littleEndian long e ∙ from-little ys each-y
+
+-- The number of the bytes from i on, by the byte at i and the number of those after it.
+from-next : (bytes : List ℕ) (i : ℕ) → fromLittle (drop i bytes) ≡ getD bytes i 0 + 256 * fromLittle (drop (suc i) bytes)
+unfolding fromLittle
+from-next [] i = rw (drop-nil i) refl
+from-next (b ∷ bytes) zero = refl
+from-next (b ∷ bytes) (suc i) = from-next bytes i
+
+-- The number of eight bytes, by sums and products.
+pub eight-bytes : (bytes : List ℕ) → length bytes ≡ 8
+    → let b = getD bytes in
+    fromLittle bytes ≡ b 0 0 + 256 * (b 1 0 + 256 * (b 2 0 + 256 * (b 3 0 + 256 * (b 4 0 + 256 * (b 5 0 + 256 * (b 6 0 + 256 * b 7 0))))))
+unfolding fromLittle
+eight-bytes bytes e =
+    let none : fromLittle (drop 8 bytes) ≡ 0 = rw (← e, drop-length bytes) refl in
+    omega (arith, none, from-next bytes 0, from-next bytes 1, from-next bytes 2, from-next bytes 3, from-next bytes 4, from-next bytes 5, from-next bytes 6, from-next bytes 7)
+
+-- The number is 0 exactly where all bytes are.
+pub fromLittle-zero : (bytes : List ℕ) → (fromLittle bytes ≡ 0) ↔ ((i : ℕ) → i < length bytes → getD bytes i 0 ≡ 0)
+unfolding fromLittle
+fromLittle-zero [] = (λ e i h. refl, λ each. refl)
+fromLittle-zero (b ∷ bytes) =
+    let rest = fromLittle-zero bytes in (
+      λ e i. elim i [
+        | zero ↦ λ h. omega arith
+        | suc k ↦ λ h. rest .0 (omega arith) k (omega arith)
+      ],
+      λ each. omega (arith, each 0 (omega arith), rest .1 (λ i h. each (suc i) (omega arith))),
+    )
 
 -- What `store` keeps: the i bytes written and the bytes of the rest are the k bytes of x.
 pub record StoredBelow (k x : ℕ) (bytes : List ℕ) (rest i : ℕ) : Type 0 where

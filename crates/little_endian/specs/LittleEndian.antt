@@ -1,4 +1,4 @@
--- Numbers as bytes, the lowest byte first: 01, "Bookmark and calls", "steps in eight bytes, low first", and "The refit program", "allowance, low byte first".
+-- Numbers as bytes, the lowest byte first: 01, "Bookmark and calls", "steps in eight bytes, low first", and "The refit program", "allowance, low byte first"; 02, U3, "join eight into one word".
 use mathlib.Core.List.{List, [], _∷_}
 use Prim.Native.Nat.{ℕ, zero, suc, _+_, _*_, _/_, _%_}
 

@@ -1,4 +1,4 @@
-// Numbers of 64 bits as eight bytes, the lowest first, by division and remainder.
+// Numbers of 64 bits as eight bytes, the lowest first, by arithmetic.
 
 ghost use mathlib.Core.Path.{_≡_};
 ghost use lib.ListN.{take};
@@ -33,4 +33,14 @@ pub fn load(bytes: &[u8]) -> u64
         x = x * 256 + bytes[i] as u64;
     }
     x
+}
+
+// The number of eight bytes, without a loop: compiled, it is one load where they stand beside each other.
+pub fn join(bytes: [u8; 8]) -> u64
+    ensures { λ r. ⌜ r ≡ fromLittle bytes ⌝ }
+{
+    let high = bytes[4] as u64
+        + 256 * (bytes[5] as u64 + 256 * (bytes[6] as u64 + 256 * (bytes[7] as u64)));
+    bytes[0] as u64
+        + 256 * (bytes[1] as u64 + 256 * (bytes[2] as u64 + 256 * (bytes[3] as u64 + 256 * high)))
 }

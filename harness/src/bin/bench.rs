@@ -14,7 +14,10 @@ use std::time::Duration;
 use harness::answer::Answer;
 use harness::cases::{graph, Style};
 use harness::fast::Search;
-use harness::library::{self, CHECKPOINT_BYTES, MAX_VERTICES, SUBSTITUTES_BYTES, WORKSPACE_WORDS};
+use harness::library::{
+    self, CHECKPOINT_BYTES, MAX_VERTICES, NO_SUBSTITUTES, SUBSTITUTES_BYTES, UNMAPPED,
+    WORKSPACE_WORDS,
+};
 use harness::panels;
 use harness::random::Random;
 use harness::reference::{Checkpoint, Graph, Problem, Substitutes};
@@ -25,6 +28,7 @@ const SLICES: usize = 20;
 const SLICE: u64 = 1_000_000;
 const ROUNDS: usize = 5;
 const CALLS: u32 = 200;
+const TESTS: u32 = 2000;
 const WANTED_RATIO: f64 = 2.0;
 const WANTED_MICROSECONDS: f64 = 100.0;
 
@@ -69,6 +73,16 @@ const SINGLE_CALLS: [Shape; 5] = [
     random(64, 1, 3, 100),
     random(64, 1, 1, 0),
     panel(64, 20, 0),
+];
+
+/// Whose soundness test is timed: with many unused edge bytes, with some, with none.
+const TESTED: [Shape; 6] = [
+    random(1, 1, 1, 0),
+    random(8, 2, 1, 30),
+    random(24, 2, 1, 30),
+    random(40, 2, 1, 30),
+    random(57, 2, 1, 30),
+    random(64, 2, 1, 30),
 ];
 
 /// Timed with a full list.
@@ -146,6 +160,8 @@ fn walk_alone(side: &str, walk: &str, visits: &str) -> Option<u64> {
 fn time_all() {
     println!("walks of {SLICES} * {SLICE} visits, best of {ROUNDS} rounds:");
     let walks = WALKS.map(|shape| time_walk(&shape));
+    println!("soundness tests, best of {ROUNDS} rounds of {TESTS} calls:");
+    TESTED.iter().for_each(time_soundness);
     println!("calls of one visit, best of {ROUNDS} rounds of {CALLS} calls:");
     let calls = SINGLE_CALLS.map(|shape| time_calls(&shape));
     println!("the same with {SUBSTITUTES_BYTES} bytes of substitutes:");
@@ -206,6 +222,30 @@ fn time_walk(shape: &Shape) -> Walk {
         false => println!(),
     }
     Walk { ratio, same }
+}
+
+/// A check of a mapping that leaves all out reads both graphs, tests both and does little else.
+fn time_soundness(shape: &Shape) {
+    let problem = shape.problem();
+    let [old, new] = [&problem.old, &problem.new].map(Graph::save);
+    let mapping = vec![UNMAPPED; problem.old.order()];
+    let check = best_of_rounds(TESTS, || {
+        accepted(library::check_mapping(&old, &new, NO_SUBSTITUTES, &mapping));
+    });
+    let read = best_of_rounds(TESTS, || {
+        accepted(library::check_graph(&old));
+        accepted(library::check_graph(&new));
+    });
+    println!(
+        "  {shape}: both graphs {:.2} us, read before that in {read:.2} us",
+        check - read
+    );
+}
+
+/// The microseconds of one call, in the best round of so many calls.
+fn best_of_rounds(calls: u32, mut call: impl FnMut()) -> f64 {
+    let rounds = (0..ROUNDS).map(|_| timed(|| (0..calls).for_each(|_| call())));
+    rounds.min().unwrap_or_default().as_secs_f64() * 1e6 / f64::from(calls)
 }
 
 /// The microseconds of one call from the dearest of three checkpoints: fresh, on the first way
@@ -369,15 +409,10 @@ impl LibrarySearch {
 
     /// The microseconds of one call of one visit.
     fn single_call_time(&mut self) -> f64 {
-        let rounds = (0..ROUNDS).map(|_| timed(|| self.single_calls()));
-        rounds.min().unwrap_or_default().as_secs_f64() * 1e6 / f64::from(CALLS)
-    }
-
-    fn single_calls(&mut self) {
         let mut next = [0; CHECKPOINT_BYTES];
-        for _ in 0..CALLS {
+        best_of_rounds(CALLS, || {
             accepted(self.resume(1, &mut next));
-        }
+        })
     }
 
     fn resume(&mut self, budget: u64, next: &mut [u8]) -> Answer {

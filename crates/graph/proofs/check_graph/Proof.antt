@@ -28,7 +28,8 @@ returns-2 c =
 edges-sound-requires : tie.Need-edges-sound-requires
 edges-sound-requires c κs =
     let a = c .before .before .before .before .before .before .args in
-    fit-lengths (a .order) (a .labels .now) (a .edges .now) (sym (c .before .before .before .tables-fit .ensures) ∙ not-false _ (c .before .before .if1 .left)) .1
+    let fit = fit-lengths (a .order) (a .labels .now) (a .edges .now) (sym (c .before .before .before .tables-fit .ensures) ∙ not-false _ (c .before .before .if1 .left)) in
+    (fit .1, fit .2)
 
 returns-3 : tie.Need-returns-3
 unfolding soundness

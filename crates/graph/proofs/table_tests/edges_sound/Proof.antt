@@ -1,22 +1,36 @@
--- `graph::table_tests::edges_sound` meets its contract: the half rows tested so far have passed (`HalfRows`).
+-- `graph::table_tests::edges_sound` meets its contract: the rows tested so far are sound, and what the tests ask of all rows is what
+-- `edgesSound` asks (`EdgeRows`).
 -- Assumes nothing.
 use borrow.Author.Needs.{needs}
+use borrow.Author.Count.{below-none, below-more}
 use borrow.Author.Tests.{not-true, not-false}
-use mathlib.Core.Path.{sym, _∙_}
-use Prim.Native.Nat.{_-_}
-use Rattle.bounded.proofs.AllBelow.{PassedTo, passed-none, passed-more, passed-all, false-allBelow}
-use Rattle.graph.proofs.HalfRows.{halfRow, half-rows}
+use mathlib.Core.Path.{_≡_}
+use mathlib.Core.Bool.{true}
+use mathlib.Core.Logic.{_↔_}
+use Prim.Native.Nat.{ℕ, _-_, _<_}
+use native.Mathlib.Omega.{arith}
+use Rattle.graph.specs.Soundness.{edgesSound}
+use Rattle.graph.specs.EdgeRows.{RowSound}
+use Rattle.graph.proofs.ExactTests.{test-fails, test-refutes, same-test}
+use Rattle.graph.proofs.EdgeRows.{RowsSound, rows-alone}
 use Rattle.graph.proofs.table_tests.edges_sound.Statement.{statement}
 use Rattle.graph.proofs.table_tests.edges_sound.Tie as tie
 
 abbrev Inv-loop : tie.InvT-loop
-Inv-loop order edges a₀ a = PassedTo 64 (halfRow order edges) a
+Inv-loop order edges a₀ a = (k : ℕ) → k < a → RowSound order edges k
 
 abbrev μ-loop : tie.MeasureT-loop
-μ-loop order edges a₀ a = 64 - a
+μ-loop order edges a₀ a = order - a
+
+-- what all rows are asked for
+rows : (c : tie.After-shared-slice-known Inv-loop μ-loop)
+    → let a = c .before .args in (edgesSound (a .order) (a .edges .now) ≡ true) ↔ RowsSound (a .order) (a .edges .now)
+rows c =
+    let a = c .before .args in
+    rows-alone (a .order) (a .edges .now) (c .before .pre .1) (λ i. omega (arith, c .shared-slice-known .given i))
 
 loop-holds : tie.Need-loop-holds Inv-loop μ-loop
-loop-holds c = passed-none _ _
+loop-holds c = below-none _
 
 row-sound-requires : tie.Need-row-sound-requires Inv-loop μ-loop
 row-sound-requires c κs = search needs
@@ -24,7 +38,9 @@ row-sound-requires c κs = search needs
 returns : tie.Need-returns Inv-loop μ-loop
 returns c =
     let r = c .before in
-    sym (half-rows _ _ ∙ false-allBelow 64 _ _ (r .before .loop-test .taken) (sym (r .row-sound .ensures) ∙ not-true _ (c .if1 .taken)))
+    same-test _ _
+    (test-fails (λ sound. test-refutes (r .row-sound .ensures) (not-true _ (c .if1 .taken)) (sound .0 _ (r .before .loop-test .taken))))
+    (rows (r .before .before .before))
 
 add-a : tie.Need-add-a Inv-loop μ-loop
 add-a c = search needs
@@ -33,12 +49,33 @@ loop-less : tie.Need-loop-less Inv-loop μ-loop
 loop-less c = search needs
 
 loop-again : tie.Need-loop-again Inv-loop μ-loop
-loop-again c =
-    let r = c .before in
-    passed-more _ _ _ (r .before .loop-test .taken) (r .before .before .loop .inv) (sym (r .row-sound .ensures) ∙ not-false _ (c .if1 .left))
+loop-again c = below-more _ _ (c .before .before .before .loop .inv) (c .before .row-sound .ensures .0 (not-false _ (c .if1 .left)))
+
+mul-words-null : tie.Need-mul-words-null Inv-loop μ-loop
+mul-words-null c = search needs
+
+words-null-requires : tie.Need-words-null-requires Inv-loop μ-loop
+words-null-requires c κs = search needs
 
 returns-2 : tie.Need-returns-2 Inv-loop μ-loop
-returns-2 c = sym (half-rows _ _ ∙ passed-all 64 _ _ (c .loop-test .left) (c .before .loop .inv))
+returns-2 c =
+    let r = c .before in
+    same-test _ _
+    (λ e. (λ k h. r .before .loop .inv k (omega arith), c .words-null .ensures .0 e), λ sound. c .words-null .ensures .1 (sound .1))
+    (rows (r .before .before))
 
 pub edges-sound-spec : {M : Type 1} → statement M
-edges-sound-spec = tie.close (tie.spec Inv-loop μ-loop loop-holds row-sound-requires returns add-a loop-less loop-again returns-2)
+edges-sound-spec =
+    tie.close
+    (tie.spec
+    Inv-loop
+    μ-loop
+    loop-holds
+    row-sound-requires
+    returns
+    add-a
+    loop-less
+    loop-again
+    mul-words-null
+    words-null-requires
+    returns-2)

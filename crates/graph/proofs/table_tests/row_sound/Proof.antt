@@ -1,45 +1,47 @@
--- `graph::table_tests::row_sound` meets its contract: the edges tested so far have passed.
+-- `graph::table_tests::row_sound` meets its contract: each test tells one part of `RowSound`.
 -- Assumes nothing.
-use borrow.Author.Needs.{needs}
 use borrow.Author.Tests.{not-true, not-false}
-use mathlib.Core.Path.{sym, _∙_}
-use Prim.Native.Nat.{_+_, _-_}
-use native.Mathlib.Omega.{arith}
-use Rattle.bounded.proofs.AllBelow.{PassedTo, passed-none, passed-more, passed-all, false-allBelow}
-use Rattle.graph.specs.Soundness.{edgeSound}
+use Rattle.graph.proofs.ExactTests.{test-fails, test-refutes}
+use borrow.Author.Needs.{needs}
 use Rattle.graph.proofs.table_tests.row_sound.Statement.{statement}
 use Rattle.graph.proofs.table_tests.row_sound.Tie as tie
 
-abbrev Inv-loop : tie.InvT-loop
-Inv-loop order edges a b₀ b = PassedTo (a + 1) (edgeSound order edges a) b
+same-before-requires : tie.Need-same-before-requires
+same-before-requires c κs = search needs
 
-abbrev μ-loop : tie.MeasureT-loop
-μ-loop order edges a b₀ b = a + 1 - b
+returns : tie.Need-returns
+returns c = test-fails (λ row. test-refutes (c .before .same-before .ensures) (not-true _ (c .if1 .taken)) (row .0))
 
-loop-holds : tie.Need-loop-holds Inv-loop μ-loop
-loop-holds c = passed-none _ _
+mul-if2 : tie.Need-mul-if2
+mul-if2 c = search needs
 
-edge-sound-requires : tie.Need-edge-sound-requires Inv-loop μ-loop
-edge-sound-requires c κs = search needs
+add-if2 : tie.Need-add-if2
+add-if2 c = search needs
 
-returns : tie.Need-returns Inv-loop μ-loop
-returns c =
-    let r = c .before in
-    sym (false-allBelow _ _ _ (omega arith) (sym (r .edge-sound .ensures) ∙ not-true _ (c .if1 .taken)))
+shared-slice-read-if2 : tie.Need-shared-slice-read-if2
+shared-slice-read-if2 c = search needs
 
-add-b : tie.Need-add-b Inv-loop μ-loop
-add-b c = search needs
+returns-2 : tie.Need-returns-2
+returns-2 c = test-fails (λ row. c .if2 .taken (row .1))
 
-loop-less : tie.Need-loop-less Inv-loop μ-loop
-loop-less c = search needs
+columns-null-requires : tie.Need-columns-null-requires
+columns-null-requires c κs = search needs
 
-loop-again : tie.Need-loop-again Inv-loop μ-loop
-loop-again c =
-    let r = c .before in
-    passed-more _ _ _ (omega arith) (r .before .before .loop .inv) (sym (r .edge-sound .ensures) ∙ not-false _ (c .if1 .left))
-
-returns-2 : tie.Need-returns-2 Inv-loop μ-loop
-returns-2 c = sym (passed-all _ _ _ (omega arith) (c .before .loop .inv))
+returns-3 : tie.Need-returns-3
+returns-3 c =
+    let d = c .before in
+    let same = d .before .before .before .same-before .ensures .0 (not-false _ (d .before .before .if1 .left)) in
+    (λ e. (same, d .if2 .left, c .columns-null .ensures .0 e), λ row. c .columns-null .ensures .1 (row .2))
 
 pub row-sound-spec : {M : Type 1} → statement M
-row-sound-spec = tie.close (tie.spec Inv-loop μ-loop loop-holds edge-sound-requires returns add-b loop-less loop-again returns-2)
+row-sound-spec =
+    tie.close
+    (tie.spec
+    same-before-requires
+    returns
+    mul-if2
+    add-if2
+    shared-slice-read-if2
+    returns-2
+    columns-null-requires
+    returns-3)
