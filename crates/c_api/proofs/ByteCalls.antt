@@ -17,12 +17,12 @@ use Rattle.search.specs.Call.{Called}
 use Rattle.search.specs.Calls.{called, results, leaves}
 use Rattle.checkpoint.proofs.CheckpointPasses.{passes-shape}
 use Rattle.search.proofs.ThirdProperty.{third-property-total}
-use Rattle.checkpoint_bytes.specs.Between.{Sized}
-use Rattle.checkpoint_bytes.specs.Saving.{saving}
-use Rattle.checkpoint_bytes.specs.Loading.{Loading, loading}
-use Rattle.checkpoint_bytes.proofs.CalledSized.{fresh-sized, called-sized}
-use Rattle.checkpoint_bytes.proofs.LoadAccepts.{load-in-shape}
-use Rattle.checkpoint_bytes.proofs.SaveLoad.{saved-passed, save-load-buffer}
+use Rattle.checkpoint_loader.specs.Between.{Sized}
+use Rattle.checkpoint_saver.specs.Saving.{saving}
+use Rattle.checkpoint_loader.specs.Loading.{Loading, loading}
+use Rattle.checkpoint_loader.proofs.CalledSized.{fresh-sized, called-sized}
+use Rattle.checkpoint_loader.proofs.LoadAccepts.{load-in-shape}
+use Rattle.checkpoint_loader.proofs.SaveLoad.{saved-passed, save-load-buffer}
 use Rattle.replies.specs.declared.Reply.{Reply}
 use Rattle.replies.specs.Resumed.{Resumed, searchFrom, loadOn, resumeFrom}
 use Rattle.replies.proofs.CallKept.{Ways, Positive, save-kept}

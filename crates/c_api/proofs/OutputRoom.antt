@@ -23,13 +23,13 @@ use Rattle.checkpoint.specs.declared.Checkpoint.{Checkpoint}
 use Rattle.checkpoint.specs.Checkpoints.{freshCheckpoint}
 use Rattle.checkpoint.specs.Checking.{checkpointAnswer}
 use Rattle.checkpoint.proofs.CheckpointPasses.{passes-shape, checkpoint-plain}
-use Rattle.checkpoint_bytes.specs.Saving.{checkpointBytes, maxBytes, saving}
-use Rattle.checkpoint_bytes.specs.Loading.{loading}
-use Rattle.checkpoint_bytes.specs.FaultPlace.{Bytes}
-use Rattle.checkpoint_bytes.proofs.CalledSized.{called-in-shape}
-use Rattle.checkpoint_bytes.proofs.LoadAccepts.{load-in-shape}
-use Rattle.checkpoint_bytes.proofs.LoadedSized.{load-sized}
-use Rattle.checkpoint_bytes.proofs.SavedBytes.{incumbent-few, saved-max}
+use Rattle.checkpoint_saver.specs.Saving.{checkpointBytes, maxBytes, saving}
+use Rattle.checkpoint_loader.specs.Loading.{loading}
+use Rattle.checkpoint_loader.specs.FaultPlace.{Bytes}
+use Rattle.checkpoint_loader.proofs.CalledSized.{called-in-shape}
+use Rattle.checkpoint_loader.proofs.LoadAccepts.{load-in-shape}
+use Rattle.checkpoint_loader.proofs.LoadedSized.{load-sized}
+use Rattle.checkpoint_saver.proofs.SavedLength.{incumbent-few, saved-max}
 use Rattle.replies.specs.Reply.{replyOf}
 use Rattle.replies.specs.Resumed.{Resumed}
 use Rattle.replies.specs.ReadOut.{heldIn, readCheckpoint, readLoaded, readBytes}

@@ -9,9 +9,9 @@ use Rattle.mapping.specs.Check.{checkOutcome}
 use Rattle.problem_reader.specs.ProblemReading.{ReadOutcome, read, refusal, readProblem}
 use Rattle.checkpoint.specs.declared.Checkpoint.{Checkpoint}
 use Rattle.checkpoint.specs.Checkpoints.{freshCheckpoint}
-use Rattle.checkpoint_bytes.specs.declared.SaveAnswer.{SaveAnswer}
-use Rattle.checkpoint_bytes.specs.Answers.{saveAnswer}
-use Rattle.checkpoint_bytes.specs.Saving.{savingOf, saving}
+use Rattle.checkpoint_saver.specs.declared.SaveAnswer.{SaveAnswer}
+use Rattle.checkpoint_saver.specs.Answers.{saveAnswer}
+use Rattle.checkpoint_saver.specs.Saving.{savingOf, saving}
 use Rattle.replies.specs.declared.Reply.{Reply}
 use Rattle.replies.specs.declared.ResumeReply.{ResumeReply}
 use Rattle.replies.specs.Reply.{replyOf}

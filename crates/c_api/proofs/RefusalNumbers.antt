@@ -9,8 +9,8 @@ use Rattle.answers.proofs.RefusalNumbers.{Plain}
 use Rattle.problem.specs.Problem.{Problem, problemAnswer}
 use Rattle.problem.proofs.ProblemPasses.{problem-plain}
 use Rattle.checkpoint.specs.Checkpoints.{inShape}
-use Rattle.checkpoint_bytes.specs.Form.{formFault}
-use Rattle.checkpoint_bytes.specs.Loading.{Loading, said, refuse as refuseLoad, onForm, loading}
+use Rattle.checkpoint_loader.specs.Form.{formFault}
+use Rattle.checkpoint_loader.specs.Loading.{Loading, said, refuse as refuseLoad, onForm, loading}
 
 -- Loading passes, or refuses by such a number.
 pub loading-plain : (P : Problem) (bytes : List ℕ) → Plain (loading P bytes .answer)

@@ -10,10 +10,10 @@ use Rattle.problem_reader.specs.ProblemReading.{ReadOutcome, read, refusal, rea
 use Rattle.problem_reader.proofs.ReadProblem.{Refusing, outcome-refusing}
 use Rattle.checkpoint.specs.declared.Checkpoint.{Checkpoint}
 use Rattle.search.specs.Calls.{Call, called}
-use Rattle.checkpoint_bytes.specs.Loading.{loading}
-use Rattle.checkpoint_bytes.specs.FaultPlace.{Bytes}
-use Rattle.checkpoint_bytes.proofs.LoadAccepts.{load-in-shape}
-use Rattle.checkpoint_bytes.proofs.LoadedSized.{load-sized}
+use Rattle.checkpoint_loader.specs.Loading.{loading}
+use Rattle.checkpoint_loader.specs.FaultPlace.{Bytes}
+use Rattle.checkpoint_loader.proofs.LoadAccepts.{load-in-shape}
+use Rattle.checkpoint_loader.proofs.LoadedSized.{load-sized}
 use Rattle.replies.specs.declared.Reply.{Reply}
 use Rattle.replies.specs.Resumed.{Resumed, notResumed, searchFrom, loadOn, resumeFrom}
 use Rattle.c_api.specs.Calls.{resumeOn, resuming}

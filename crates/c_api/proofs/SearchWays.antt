@@ -16,11 +16,11 @@ use Rattle.checkpoint.specs.Checkpoints.{InShape}
 use Rattle.search.specs.Call.{Called, wordsNeeded}
 use Rattle.search.specs.Calls.{Call, called}
 use Rattle.checkpoint.proofs.CheckpointPasses.{shape-passes}
-use Rattle.checkpoint_bytes.specs.Between.{Sized}
-use Rattle.checkpoint_bytes.specs.Saving.{checkpointBytes, saving}
-use Rattle.checkpoint_bytes.specs.Loading.{loading}
-use Rattle.checkpoint_bytes.proofs.CalledSized.{called-sized, called-in-shape}
-use Rattle.checkpoint_bytes.proofs.SaveLoad.{save-load}
+use Rattle.checkpoint_loader.specs.Between.{Sized}
+use Rattle.checkpoint_saver.specs.Saving.{checkpointBytes, saving}
+use Rattle.checkpoint_loader.specs.Loading.{loading}
+use Rattle.checkpoint_loader.proofs.CalledSized.{called-sized, called-in-shape}
+use Rattle.checkpoint_loader.proofs.SaveLoad.{save-load}
 use Rattle.replies.specs.Apart.{cleared}
 use Rattle.replies.specs.Reply.{reply}
 use Rattle.replies.specs.Resumed.{Resumed, resumed, notResumed, whenAccepted, saveOn, searchFrom}

@@ -15,8 +15,8 @@ use Rattle.clique.specs.Branching.{branch}
 use Rattle.clique.specs.Call.{cliqueAnswer}
 use Rattle.checkpoint.specs.Checkpoints.{freshCheckpoint}
 use Rattle.search.specs.Call.{Called, searchCall}
-use Rattle.checkpoint_bytes.specs.Saving.{saving}
-use Rattle.checkpoint_bytes.specs.Loading.{Loading, loading}
+use Rattle.checkpoint_saver.specs.Saving.{saving}
+use Rattle.checkpoint_loader.specs.Loading.{Loading, loading}
 use Rattle.replies.specs.Reply.{reply, replyOf}
 use Rattle.replies.specs.Resumed.{Resumed, resumed, notResumed, whenAccepted, saveOn, searchFrom, loadOn, resumeFrom}
 use Rattle.replies.specs.ReadOut.{ReadOut, heldIn, readCheckpoint, readLoaded, readBytes}

@@ -15,7 +15,7 @@ use Rattle.checkpoint.specs.Checkpoints.{freshCheckpoint}
 use Rattle.search.specs.Call.{Called}
 use Rattle.search.specs.Calls.{Call, results, reached}
 use Rattle.search.specs.ThirdProperty.{ThirdProperty}
-use Rattle.checkpoint_bytes.specs.Loading.{loading}
+use Rattle.checkpoint_loader.specs.Loading.{loading}
 use Rattle.replies.specs.Resumed.{Resumed}
 use Rattle.c_api.specs.Calls.{Started, resuming}
 use Rattle.c_api.specs.ResumedCall.{loadsTo}

@@ -6,7 +6,7 @@ use Rattle.answers.specs.Output.{Writing}
 use Rattle.problem.specs.Problem.{Problem, substituting}
 use Rattle.problem_reader.specs.ProblemReading.{ReadOutcome, onOutcome, readProblem}
 use Rattle.checkpoint.specs.Checkpoints.{freshCheckpoint}
-use Rattle.checkpoint_bytes.specs.Saving.{saving}
+use Rattle.checkpoint_saver.specs.Saving.{saving}
 use Rattle.replies.specs.declared.Reply.{Reply}
 use Rattle.replies.specs.Reply.{replyOf}
 use Rattle.replies.specs.Resumed.{Resumed, notResumed, resumeFrom}

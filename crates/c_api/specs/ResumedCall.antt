@@ -9,8 +9,8 @@ use Rattle.problem.specs.Problem.{Problem, substituting}
 use Rattle.problem_reader.specs.ProblemReading.{read, readProblem}
 use Rattle.checkpoint.specs.declared.Checkpoint.{Checkpoint}
 use Rattle.search.specs.Call.{Called, searchCall}
-use Rattle.checkpoint_bytes.specs.Saving.{checkpointBytes}
-use Rattle.checkpoint_bytes.specs.Loading.{Loading, loading}
+use Rattle.checkpoint_saver.specs.Saving.{checkpointBytes}
+use Rattle.checkpoint_loader.specs.Loading.{Loading, loading}
 use Rattle.replies.specs.Resumed.{Resumed}
 
 -- the search call on the checkpoint that is loaded

@@ -106,7 +106,7 @@ pub extern "C" fn golfcedar_start(
         }
         ProblemRead::Orders(old_order, new_order) => {
             let fresh = Checkpoint::fresh(minimum);
-            let reply = replies::of_save(checkpoint_bytes::save_checkpoint(
+            let reply = replies::of_save(checkpoint_saver::save_checkpoint(
                 [old_order, new_order],
                 [&old_labels, &new_labels],
                 [&old_edges, &new_edges],

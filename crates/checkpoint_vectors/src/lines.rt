@@ -1,8 +1,8 @@
 // The parts of an output line.
 
 use checkpoint::Checkpoint;
-use checkpoint_bytes::LoadAnswer;
-use checkpoint_bytes::SaveAnswer;
+use checkpoint_loader::LoadAnswer;
+use checkpoint_saver::SaveAnswer;
 use libc::STDOUT_FILENO;
 
 pub fn word(text: &[u8]) {
@@ -24,11 +24,11 @@ pub fn loaded(answer: LoadAnswer) {
             word(b": loaded");
         }
         LoadAnswer::Malformed(at) => {
-            refused(checkpoint_bytes::load_number(answer));
+            refused(checkpoint_loader::load_number(answer));
             number(b" ", at as u64);
         }
         _ => {
-            refused(checkpoint_bytes::load_number(answer));
+            refused(checkpoint_loader::load_number(answer));
         }
     }
 }
@@ -39,7 +39,7 @@ pub fn checkpoint(c: Checkpoint) {
     number(b", depth ", c.depth as u64);
     number(
         b", state ",
-        checkpoint_bytes::state_byte(c.finished, c.holds) as u64,
+        checkpoint_saver::state_byte(c.finished, c.holds) as u64,
     );
 }
 
@@ -49,7 +49,7 @@ pub fn saved(answer: SaveAnswer) {
             number(b": saved ", count as u64);
         }
         _ => {
-            refused(checkpoint_bytes::save_number(answer));
+            refused(checkpoint_saver::save_number(answer));
         }
     }
 }

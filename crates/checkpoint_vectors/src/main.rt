@@ -4,7 +4,7 @@
 mod lines;
 
 use checkpoint::Checkpoint;
-use checkpoint_bytes::LoadAnswer;
+use checkpoint_loader::LoadAnswer;
 use graph_reader::ReadAnswer;
 use problem::Edges;
 use problem::Labels;
@@ -33,7 +33,7 @@ fn load<'a>(
     substitutes: &[u8],
     bytes: &[u8],
 ) {
-    let loaded = checkpoint_bytes::load_checkpoint(orders, labels, edges, substitutes, bytes);
+    let loaded = checkpoint_loader::load_checkpoint(orders, labels, edges, substitutes, bytes);
     let answer = loaded.answer;
     let checkpoint = loaded.checkpoint;
     lines::word(name);
@@ -41,7 +41,7 @@ fn load<'a>(
     lines::checkpoint(checkpoint);
     if let LoadAnswer::InShape = answer {
         let mut buffer = [170u8; 300];
-        lines::saved(checkpoint_bytes::save_checkpoint(
+        lines::saved(checkpoint_saver::save_checkpoint(
             orders,
             labels,
             edges,
@@ -302,7 +302,7 @@ fn save(name: &[u8], depth: usize, edge: u8, substitutes: &[u8], out: &mut [u8])
     path[0] = 255;
     path[1] = 255;
     path[2] = 255;
-    let answer = checkpoint_bytes::save_checkpoint(
+    let answer = checkpoint_saver::save_checkpoint(
         [3, 3],
         [&labels, &labels],
         [&edges, &edges],
@@ -382,7 +382,7 @@ fn save_one_visit(name: &[u8], substitutes: &[u8], due: &[u8]) {
     old_labels[0] = 7;
     new_labels[0] = 9;
     let mut out = [170u8; 300];
-    let answer = checkpoint_bytes::save_checkpoint(
+    let answer = checkpoint_saver::save_checkpoint(
         [1, 1],
         [&old_labels, &new_labels],
         [&edges, &edges],

@@ -20,16 +20,17 @@ use Rattle.search.specs.declared.SearchAnswer.{SearchAnswer}
 use Rattle.search.specs.Call.{Called, wordsNeeded, searchCall}
 use Rattle.search.specs.Answers.{searchAnswer, calledOf}
 use Rattle.search.proofs.SearchAnswer as search-tags
-use Rattle.checkpoint_bytes.specs.declared.SaveAnswer.{SaveAnswer}
-use Rattle.checkpoint_bytes.specs.declared.Loaded.{Loaded}
-use Rattle.checkpoint_bytes.specs.declared.LoadAnswer.{LoadAnswer}
-use Rattle.checkpoint_bytes.specs.Answers.{saveAnswer, loadAnswer}
-use Rattle.checkpoint_bytes.specs.Saving.{stateByte, savingOf, saving}
-use Rattle.checkpoint_bytes.specs.Loading.{Loading, loadingOf, loading}
-use Rattle.checkpoint_bytes.proofs.LoadAnswer as load-tags
-use Rattle.checkpoint_bytes.proofs.SaveAnswer as save-tags
-use Rattle.checkpoint_bytes.proofs.SavedBytes.{incumbent-few}
-use Rattle.checkpoint_bytes.proofs.LoadAccepts.{load-in-shape}
+use Rattle.checkpoint_saver.specs.declared.SaveAnswer.{SaveAnswer}
+use Rattle.checkpoint_loader.specs.declared.Loaded.{Loaded}
+use Rattle.checkpoint_loader.specs.declared.LoadAnswer.{LoadAnswer}
+use Rattle.checkpoint_saver.specs.Answers.{saveAnswer}
+use Rattle.checkpoint_loader.specs.Answers.{loadAnswer}
+use Rattle.checkpoint_saver.specs.Saving.{stateByte, savingOf, saving}
+use Rattle.checkpoint_loader.specs.Loading.{Loading, loadingOf, loading}
+use Rattle.checkpoint_loader.proofs.LoadAnswer as load-tags
+use Rattle.checkpoint_saver.proofs.SaveAnswer as save-tags
+use Rattle.checkpoint_saver.proofs.SavedLength.{incumbent-few}
+use Rattle.checkpoint_loader.proofs.LoadAccepts.{load-in-shape}
 use Rattle.replies.specs.declared.Reply.{Reply}
 use Rattle.replies.specs.declared.ResumeReply.{ResumeReply}
 use Rattle.replies.specs.Reply.{reply, replyOf, tooShort}

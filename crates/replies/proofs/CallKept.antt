@@ -18,7 +18,7 @@ use Rattle.search.specs.Answers.{calledOf}
 use Rattle.checkpoint.specs.Checking.{checkpointAnswer}
 use Rattle.search.specs.Call.{Called, wordsNeeded, refuse, advance, countFits, onPassed, searchCall}
 use Rattle.checkpoint.proofs.CheckpointPasses.{checkpoint-plain}
-use Rattle.checkpoint_bytes.specs.Saving.{checkpointBytes, saving}
+use Rattle.checkpoint_saver.specs.Saving.{checkpointBytes, saving}
 use Rattle.replies.specs.Apart.{FoundBy, cleared}
 
 -- an answer's ways: a value, and then A holds, or a refusal by a number that is R, and then B holds

@@ -10,8 +10,8 @@ use Rattle.problem.specs.Problem.{Problem}
 use Rattle.mapping.specs.Common.{size}
 use Rattle.checkpoint.specs.declared.Checkpoint.{Checkpoint}
 use Rattle.search.specs.Call.{wordsNeeded, searchCall}
-use Rattle.checkpoint_bytes.specs.Saving.{stateByte}
-use Rattle.checkpoint_bytes.specs.Loading.{Loading, loading}
+use Rattle.checkpoint_saver.specs.Saving.{stateByte}
+use Rattle.checkpoint_loader.specs.Loading.{Loading, loading}
 use Rattle.replies.specs.declared.Reply.{Reply}
 use Rattle.replies.specs.Reply.{reply, replyOf, tooShort}
 

@@ -5,8 +5,8 @@ use Rattle.answers.specs.Answer.{Answer, passed, refused, refusedAt, onAnswer, 
 use Rattle.problem.specs.Problem.{Problem}
 use Rattle.checkpoint.specs.declared.Checkpoint.{Checkpoint}
 use Rattle.search.specs.Call.{Called, searchCall}
-use Rattle.checkpoint_bytes.specs.Saving.{saving}
-use Rattle.checkpoint_bytes.specs.Loading.{Loading, loading}
+use Rattle.checkpoint_saver.specs.Saving.{saving}
+use Rattle.checkpoint_loader.specs.Loading.{Loading, loading}
 use Rattle.replies.specs.declared.Reply.{Reply}
 use Rattle.replies.specs.Reply.{reply, replyOf}
 

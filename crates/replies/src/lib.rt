@@ -6,8 +6,8 @@ mod values;
 mod words;
 
 use checkpoint::Checkpoint;
-use checkpoint_bytes::LoadAnswer;
-use checkpoint_bytes::SaveAnswer;
+use checkpoint_loader::LoadAnswer;
+use checkpoint_saver::SaveAnswer;
 use clique::CliqueAnswer;
 use graph_reader::ReadAnswer;
 use mapping::MappingAnswer;
@@ -24,7 +24,8 @@ ghost use Rattle.problem.specs.Lent.{lent};
 ghost use Rattle.mapping.specs.Answers.{mappingOutcome};
 ghost use Rattle.clique.specs.Answers.{cliqueAnswerOf};
 ghost use Rattle.search.specs.Answers.{searchAnswer};
-ghost use Rattle.checkpoint_bytes.specs.Answers.{saveAnswer, loadAnswer};
+ghost use Rattle.checkpoint_saver.specs.Answers.{saveAnswer};
+ghost use Rattle.checkpoint_loader.specs.Answers.{loadAnswer};
 ghost use Rattle.replies.specs.Reply.{replyOf};
 ghost use Rattle.replies.specs.Checked.{checked, checkedBy};
 ghost use Rattle.replies.specs.Resumed.{resumed, searchFrom, resumeFrom};
@@ -76,7 +77,7 @@ pub fn of_save(answer: SaveAnswer) -> Reply
     ensures { λ r. ⌜ r ≡ replyOf (saveAnswer answer) ⌝ }
 {
     Reply {
-        number: checkpoint_bytes::save_number(answer) as u32,
+        number: checkpoint_saver::save_number(answer) as u32,
         value: values::save_value(answer),
     }
 }
@@ -85,7 +86,7 @@ fn of_load(answer: LoadAnswer) -> Reply
     ensures { λ r. ⌜ r ≡ replyOf (loadAnswer answer) ⌝ }
 {
     Reply {
-        number: checkpoint_bytes::load_number(answer) as u32,
+        number: checkpoint_loader::load_number(answer) as u32,
         value: values::load_value(answer),
     }
 }
@@ -149,7 +150,7 @@ fn search_and_save<'a>(
     let advanced = searched.checkpoint;
     match answer {
         SearchAnswer::Ceiling(ceiling) => {
-            let saved = checkpoint_bytes::save_checkpoint(
+            let saved = checkpoint_saver::save_checkpoint(
                 orders,
                 labels,
                 edges,
@@ -196,7 +197,7 @@ pub fn resume<'a>(
         ≡ resumeFrom (lent orders (labels .entry) (edges .entry) (now (substitutes .entry))) (now (bytes .entry)) budget
         (now (workspace .entry)) (now (next .entry)) ⌝ }
 {
-    let loaded = checkpoint_bytes::load_checkpoint(orders, labels, edges, substitutes, bytes);
+    let loaded = checkpoint_loader::load_checkpoint(orders, labels, edges, substitutes, bytes);
     let answer = loaded.answer;
     let checkpoint = loaded.checkpoint;
     match answer {
@@ -259,7 +260,7 @@ fn read_checkpoint<'a>(
     ReadReply {
         reply: Reply {
             number: 0,
-            value: checkpoint_bytes::state_byte(checkpoint.finished, checkpoint.holds) as u64,
+            value: checkpoint_saver::state_byte(checkpoint.finished, checkpoint.holds) as u64,
         },
         steps: checkpoint.steps,
         size,
@@ -279,7 +280,7 @@ pub fn read_out<'a>(
     ensures { λ r. ⌜ readOut (r .reply) (r .steps) (r .size) (r .ceiling) (now (mapping .exit))
         ≡ readBytes (lent orders (labels .entry) (edges .entry) (now (substitutes .entry))) (now (bytes .entry)) (now (mapping .entry)) ⌝ }
 {
-    let loaded = checkpoint_bytes::load_checkpoint(orders, labels, edges, substitutes, bytes);
+    let loaded = checkpoint_loader::load_checkpoint(orders, labels, edges, substitutes, bytes);
     let answer = loaded.answer;
     let checkpoint = loaded.checkpoint;
     match answer {

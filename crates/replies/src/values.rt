@@ -1,7 +1,7 @@
 // The value that goes with an answer: its count, order, size or ceiling, or its place or row, and 0 where it has none.
 
-use checkpoint_bytes::LoadAnswer;
-use checkpoint_bytes::SaveAnswer;
+use checkpoint_loader::LoadAnswer;
+use checkpoint_saver::SaveAnswer;
 use clique::CliqueAnswer;
 use graph_reader::ReadAnswer;
 use mapping::MappingAnswer;
@@ -12,7 +12,8 @@ ghost use Rattle.graph_reader.specs.Answers.{readAnswer};
 ghost use Rattle.mapping.specs.Answers.{mappingOutcome};
 ghost use Rattle.clique.specs.Answers.{cliqueAnswerOf};
 ghost use Rattle.search.specs.Answers.{searchAnswer};
-ghost use Rattle.checkpoint_bytes.specs.Answers.{saveAnswer, loadAnswer};
+ghost use Rattle.checkpoint_saver.specs.Answers.{saveAnswer};
+ghost use Rattle.checkpoint_loader.specs.Answers.{loadAnswer};
 ghost use Rattle.replies.specs.Checked.{outcomeValue, earlierRow};
 
 pub fn read_value(answer: ReadAnswer) -> u64

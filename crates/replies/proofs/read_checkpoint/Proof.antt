@@ -6,7 +6,7 @@ use native.Mathlib.Omega.{arith}
 use lib.ListN.{length, length-map}
 use Rattle.problem.specs.Problem.{Problem}
 use Rattle.problem.specs.Lent.{lent}
-use Rattle.checkpoint_bytes.proofs.SavedBytes.{incumbent-few}
+use Rattle.checkpoint_saver.proofs.SavedLength.{incumbent-few}
 use Rattle.replies.proofs.CallArms.{read-short, read-numbers}
 use borrow.Author.Needs.{needs}
 use Rattle.replies.proofs.read_checkpoint.Statement.{statement}

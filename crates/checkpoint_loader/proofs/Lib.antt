@@ -1,0 +1,17 @@
+pub mod Examples
+pub mod FaultTurn
+pub mod FormWalk
+pub mod Pairs
+pub mod FormEntries
+pub mod FormedBytes
+pub mod FormedSays
+pub mod FormCompletes
+pub mod FaultPlace
+pub mod SavedBytes
+pub mod SaveLoad
+pub mod LoadAccepts
+pub mod LoadedSized
+pub mod CalledSized
+pub mod BetweenCalls
+pub mod EntryRuns
+pub mod LoadRefusals

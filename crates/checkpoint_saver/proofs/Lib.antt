@@ -1,0 +1,2 @@
+pub mod SaveSections
+pub mod SavedLength

@@ -1,0 +1,18 @@
+-- `checkpoint_saver::state_byte` meets its contract. Assumes nothing.
+use Rattle.checkpoint_saver.proofs.state_byte.Statement.{statement}
+use Rattle.checkpoint_saver.proofs.state_byte.Tie as tie
+
+returns : tie.Need-returns
+returns c = rw (c .before .if1 .taken, c .if2 .taken)
+
+returns-2 : tie.Need-returns-2
+returns-2 c = rw (c .before .if1 .taken, c .if2 .left)
+
+returns-3 : tie.Need-returns-3
+returns-3 c = rw (c .before .if1 .left, c .if3 .taken)
+
+returns-4 : tie.Need-returns-4
+returns-4 c = rw (c .before .if1 .left, c .if3 .left)
+
+pub state-byte-spec : {M : Type 1} → statement M
+state-byte-spec = tie.close (tie.spec returns returns-2 returns-3 returns-4)
