@@ -2,3 +2,4 @@ pub mod AllBelow
 pub mod Below
 pub mod SomeBelow
 pub mod First
+pub mod Tells

@@ -1,7 +1,7 @@
 -- The test of a checkpoint's shape by the check of two mappings: of the filled path, and of what is held.
-use mathlib.Core.Path.{_≡_, refl, sym, ap, _∙_}
-use mathlib.Core.Logic.{_↔_, Iff·trans}
-use mathlib.Core.Bool.{Bool, true, false, cond, not, _||_}
+use mathlib.Core.Path.{_≡_, sym, ap, _∙_}
+use mathlib.Core.Logic.{Iff·trans}
+use mathlib.Core.Bool.{Bool, cond, not, _||_}
 use mathlib.Core.List.{List}
 use Prim.Native.Nat.{ℕ, _≤_, _<_, zero-le}
 use native.Mathlib.Decide.{decLt}
@@ -10,6 +10,7 @@ use lib.ListN.{length, getD, take}
 use lib.Seq.{length-take-le, getD-take, take-take}
 use borrow.Author.Tests.{lt-leb}
 use Rattle.bounded.specs.Below.{allBelow}
+use Rattle.bounded.proofs.Tells.{Tells, tells-eq, tells-itself, tells-one, tells-all, same-answer}
 use Rattle.answers.specs.Answer.{passed, refused}
 use Rattle.problem.specs.Problem.{Problem, SoundProblem, problemAnswer}
 use Rattle.problem.proofs.ProblemPasses.{passes-problem}
@@ -24,13 +25,7 @@ use Rattle.checkpoint.specs.declared.Checkpoint.{Checkpoint}
 use Rattle.checkpoint.specs.Checkpoints.{reaches, pathFits, incumbentFits, shapeTests, inShape}
 use Rattle.checkpoint.specs.Checking.{checkpointAnswer}
 use Rattle.checkpoint.proofs.FilledPath.{filledTo, take-filled}
-use Rattle.checkpoint.proofs.ShapeTest.{Tells, tells-eq, tells-itself, tells-one, tells-all, tells-reaches}
-
--- two tests that say the same have the same answer
-same-answer : {A B : Type 0} (a b : Bool) → Tells a A → Tells b B → A ↔ B → a ≡ b
-same-answer true b l r same = sym (r .1 (same .0 (l .0 refl)))
-same-answer false true l r same = l .1 (same .1 (r .0 refl))
-same-answer false false l r same = refl
+use Rattle.checkpoint.proofs.ShapeTest.{tells-reaches}
 
 module _ (P : Problem) (c : Checkpoint) (long : length (c .path) ≡ 64) (sound : SoundProblem P) where
   module _ (deep : c .depth ≤ P .old .order) where

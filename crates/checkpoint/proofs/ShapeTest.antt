@@ -1,16 +1,15 @@
 -- The test of a checkpoint's shape passes exactly on checkpoints in shape.
 use mathlib.Core.Path.{_≡_, refl, sym, ap, _∙_}
 use mathlib.Core.Logic.{_↔_, _⊎_, inl, inr, ⊎-elim, Iff·trans}
-use mathlib.Core.Bool.{Bool, true, false, not, _&&_, _||_, Bool·beq, and-eq-true-iff, true≢false, false≢true}
+use mathlib.Core.Bool.{Bool, true, false, true≢false, false≢true}
 use mathlib.Core.List.{List}
 use Prim.Native.Nat.{ℕ, _≤_, _<_}
 use native.Mathlib.Decide.{decLt}
 use native.Mathlib.Omega.{arith}
-use lib.Dec.{leb, ltb, eqb}
+use lib.Dec.{eqb}
 use lib.ListN.{getD, take}
-use borrow.Author.Tests.{ltb-true, leb-true, eqb-true, eqb-false, lt-ltb, le-leb, eq-eqb}
-use Rattle.bounded.specs.Below.{allBelow}
-use Rattle.bounded.proofs.AllBelow.{allBelow-true, true-allBelow}
+use borrow.Author.Tests.{leb-true, eqb-true, eqb-false, le-leb}
+use Rattle.bounded.proofs.Tells.{Tells, tells-le, tells-lt, tells-eq, tells-itself, tells-not, tells-both, tells-one, tells-same, tells-all}
 use Rattle.problem.specs.Problem.{Problem, SoundProblem}
 use Rattle.mapping.specs.Common.{Common, unmapped, size}
 use Rattle.mapping.specs.Answers.{Outcome, accepted, refused, refusedRow, refusedRows}
@@ -21,49 +20,6 @@ use Rattle.search_tree.specs.Rules.{rulesOf}
 use Rattle.search_tree.specs.Node.{candidate}
 use Rattle.checkpoint.specs.declared.Checkpoint.{Checkpoint}
 use Rattle.checkpoint.specs.Checkpoints.{InShape, reaches, pathFits, restFits, inShape}
-
--- what a test says: it passes exactly when A holds
-abbrev pub Tells : Bool → Type 0 → Type 0
-Tells t A = (t ≡ true) ↔ A
-
-tells-le : (a b : ℕ) → Tells (leb a b) (a ≤ b)
-tells-le a b = (leb-true a b, le-leb a b)
-
-tells-lt : (a b : ℕ) → Tells (ltb a b) (a < b)
-tells-lt a b = (ltb-true a b, lt-ltb a b)
-
--- An equality test says that the numbers are equal.
-pub tells-eq : (a b : ℕ) → Tells (eqb a b) (a ≡ b)
-tells-eq a b = (eqb-true a b, eq-eqb a b)
-
--- A test says of itself that it passes.
-pub tells-itself : (a : Bool) → Tells a (a ≡ true)
-tells-itself a = (λ e. e, λ e. e)
-
-tells-not : (a : Bool) → Tells (not a) (a ≡ false)
-tells-not true = (λ e. absurd (false≢true e), λ e. absurd (true≢false e))
-tells-not false = (λ e. refl, λ e. refl)
-
-tells-both : {A B : Type 0} (a b : Bool) → Tells a A → Tells b B → Tells (a && b) (A × B)
-tells-both a b l r = (
-  λ e. let both = and-eq-true-iff a b .0 e in (l .0 (both .0), r .0 (both .1)),
-  λ h. and-eq-true-iff a b .1 (l .1 (h .0), r .1 (h .1)),
-)
-
--- One of two tests says that one of the two statements holds.
-pub tells-one : {A B : Type 0} (a b : Bool) → Tells a A → Tells b B → Tells (a || b) (A ⊎ B)
-tells-one true b l r = (λ e. inl (l .0 refl), λ h. refl)
-tells-one false b l r = (λ e. inr (r .0 e), ⊎-elim (λ x. absurd (false≢true (l .1 x))) (λ y. r .1 y))
-
-tells-same : {A B : Type 0} (a b : Bool) → Tells a A → Tells b B → Tells (Bool·beq a b) (A ↔ B)
-tells-same true true l r = (λ e. (λ x. r .0 refl, λ y. l .0 refl), λ h. refl)
-tells-same true false l r = (λ e. absurd (false≢true e), λ h. absurd (false≢true (r .1 (h .0 (l .0 refl)))))
-tells-same false true l r = (λ e. absurd (false≢true e), λ h. absurd (false≢true (l .1 (h .1 (r .0 refl)))))
-tells-same false false l r = (λ e. (λ x. absurd (false≢true (l .1 x)), λ y. absurd (false≢true (r .1 y))), λ h. refl)
-
--- A test of all numbers below n says that each has what its own test says.
-pub tells-all : {A : ℕ → Type 0} (n : ℕ) (t : ℕ → Bool) → ((k : ℕ) → Tells (t k) (A k)) → Tells (allBelow n t) ((k : ℕ) → k < n → A k)
-tells-all n t each = (λ e k h. each k .0 (allBelow-true n t e k h), λ h. true-allBelow n t (λ k l. each k .1 (h k l)))
 
 reached-number : (k : ℕ) (o : Outcome) → reaches k o ≡ true → (n : ℕ) × (o ≡ accepted n) × (k ≤ n)
 reached-number k (accepted n) e = (n, refl, leb-true k n e)

@@ -33,7 +33,10 @@ pub fn read_formed(order: usize, bytes: &[u8]) -> Checkpoint
 {
     let state = bytes[12];
     let holds = state % 2 == 1;
-    let entries = checkpoint_saver::incumbent_entries(order, holds);
+    let mut entries = 0;
+    if holds {
+        entries = order;
+    }
     let depth = (bytes.len() - (HEADER + 1 + 2 * entries)) / 2;
     Checkpoint {
         minimum: bytes[1],

@@ -69,7 +69,7 @@ pub fn state_byte(finished: bool, holds: bool) -> u8
 }
 
 // How many entries of the incumbent the bytes have.
-pub fn incumbent_entries(order: usize, holds: bool) -> usize
+fn incumbent_entries(order: usize, holds: bool) -> usize
     ensures { λ r. ⌜ (r ≡ cond holds order 0) × (r ≤ order) ⌝ }
 {
     if holds {

@@ -9,16 +9,12 @@ use native.Mathlib.Omega.{arith}
 use lib.ListN.{getD}
 use Rattle.graph.specs.Graph.{place}
 use Rattle.graph.specs.Soundness.{edgesSound}
-use Rattle.graph.specs.EdgeRows.{Between, Null, RowSound}
+use Rattle.graph.specs.EdgeRows.{Between, Null, VertexRow, TableRows}
 use Rattle.graph.proofs.Places.{vertices-of}
 use Rattle.graph.proofs.SoundTests.{EdgeFacts, edges-facts, facts-edges}
 
--- what the tests of an edge table ask of it, row by row
-abbrev pub RowsSound : ℕ → List ℕ → Type 0
-RowsSound n edges = ((a : ℕ) → a < n → RowSound n edges a) × Between (Null edges) (64 * n) 4096
-
 -- Sound edges are so row by row.
-sound-rows : (n : ℕ) (edges : List ℕ) → n ≤ 64 → edgesSound n edges ≡ true → RowsSound n edges
+sound-rows : (n : ℕ) (edges : List ℕ) → n ≤ 64 → edgesSound n edges ≡ true → TableRows n edges
 unfolding Between
 sound-rows n edges most e = (row, unused)
   where
@@ -31,7 +27,7 @@ sound-rows n edges most e = (row, unused)
         let at = vertices-of i h in
         rw (at .0) at (fact (i / 64) (i % 64) (at .1) (at .2) .3 out)
 
-    row : (a : ℕ) → a < n → RowSound n edges a
+    row : (a : ℕ) → a < n → VertexRow n edges a
     row a h = (
       λ b from below. fact a b (omega arith) (omega arith) .1,
       fact a a (omega arith) (omega arith) .2 refl,
@@ -42,7 +38,7 @@ sound-rows n edges most e = (row, unused)
     unused i from to = null i to (omega arith)
 
 -- Edges that are so row by row are sound.
-rows-sound : (n : ℕ) (edges : List ℕ) → ((i : ℕ) → getD edges i 0 ≤ 255) → RowsSound n edges → edgesSound n edges ≡ true
+rows-sound : (n : ℕ) (edges : List ℕ) → ((i : ℕ) → getD edges i 0 ≤ 255) → TableRows n edges → edgesSound n edges ≡ true
 unfolding Between
 rows-sound n edges byte rows =
     facts-edges n edges (λ a b ha hb. (byte (place a b), same a b ha hb, itself a b ha hb, null a b ha hb))
@@ -79,5 +75,5 @@ rows-sound n edges byte rows =
         ]
 
 -- All edges are sound exactly where the row of each vertex is and the rows from the order on are null.
-pub rows-alone : (n : ℕ) (edges : List ℕ) → n ≤ 64 → ((i : ℕ) → getD edges i 0 ≤ 255) → (edgesSound n edges ≡ true) ↔ RowsSound n edges
+pub rows-alone : (n : ℕ) (edges : List ℕ) → n ≤ 64 → ((i : ℕ) → getD edges i 0 ≤ 255) → (edgesSound n edges ≡ true) ↔ TableRows n edges
 rows-alone n edges most byte = (sound-rows n edges most, rows-sound n edges byte)

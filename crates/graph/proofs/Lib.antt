@@ -1,6 +1,5 @@
 pub mod Bytes
 pub mod EdgeRows
-pub mod ExactTests
 pub mod Places
 pub mod RefusalNumbers
 pub mod Runs

@@ -16,7 +16,7 @@ use Rattle.little_endian.specs.LittleEndian.{fromLittle}
 use Rattle.little_endian.proofs.LittleEndian.{fromLittle-zero, fromLittle-injective}
 use Rattle.graph.specs.Graph.{place}
 use Rattle.graph.specs.EdgeRows.{Between, Null, Same, eightBy}
-use Rattle.graph.proofs.ExactTests.{test-fails, test-refutes}
+use Rattle.bounded.proofs.Tells.{tells-failed, tells-refuted}
 
 -- ---- a run by its parts
 
@@ -48,7 +48,7 @@ module _ (P : ℕ → Type 0) where
   -- a test of a run fails where that of a part does, and after one part has passed it is that of the rest
   pub run-fails : {r : Bool} (from to first last : ℕ) → (r ≡ true) ↔ Between P first last → r ≡ false → from ≤ first → last ≤ to
       → (_≡_ {A = Bool} false true) ↔ Between P from to
-  run-fails from to first last test e h l = test-fails (λ p. test-refutes test e (run-part from to first last h l p))
+  run-fails from to first last test e h l = tells-failed (λ p. tells-refuted test e (run-part from to first last h l p))
 
   pub run-rest : {r : Bool} (from middle to : ℕ) → from ≤ middle → Between P from middle → (r ≡ true) ↔ Between P middle to → (r ≡ true) ↔ Between P from to
   run-rest from middle to h p test =

@@ -18,9 +18,14 @@ Null edges i = getD edges i 0 ≡ 0
 abbrev pub Same : List ℕ → ℕ → ℕ → Type 0
 Same edges a b = getD edges (place a b) 0 ≡ getD edges (place b a) 0
 
-abbrev pub RowSound : ℕ → List ℕ → ℕ → Type 0
-RowSound order edges a =
+-- what is asked of the row of a vertex
+abbrev pub VertexRow : ℕ → List ℕ → ℕ → Type 0
+VertexRow order edges a =
     Between (Same edges a) 0 a × Null edges (place a a) × Between (Null edges) (place a order) (place a 64)
+
+-- what is asked of the whole table
+abbrev pub TableRows : ℕ → List ℕ → Type 0
+TableRows order edges = ((a : ℕ) → a < order → VertexRow order edges a) × Between (Null edges) (64 * order) 4096
 
 -- eight bytes of the table, at places one step apart: "join eight into one word"
 abbrev pub eightBy : ℕ → List ℕ → ℕ → List ℕ

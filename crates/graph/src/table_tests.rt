@@ -10,7 +10,7 @@ ghost use mathlib.Core.Logic.{_↔_};
 ghost use mathlib.Core.Bool.{true};
 ghost use Prim.Native.Nat.{_≤_, _<_};
 ghost use lib.ListN.{length};
-ghost use Rattle.graph.specs.EdgeRows.{RowSound};
+ghost use Rattle.graph.specs.EdgeRows.{VertexRow};
 ghost use Rattle.graph.specs.Soundness.{labelSound, labelsSound, edgesSound};
 
 // The label of v is not 0 exactly where v is a vertex of the graph.
@@ -41,7 +41,7 @@ pub fn labels_sound(order: usize, labels: &[Label]) -> bool
 // The row of a vertex a. Its other half is looked at with the later vertices.
 fn row_sound(order: usize, edges: &[u8], a: usize) -> bool
     requires { ⌜ (length (now edges) ≡ 4096) × (order ≤ 64) × (a < order) ⌝ }
-    ensures { λ r. ⌜ (r ≡ true) ↔ RowSound order (now (edges .entry)) a ⌝ }
+    ensures { λ r. ⌜ (r ≡ true) ↔ VertexRow order (now (edges .entry)) a ⌝ }
 {
     if !same_edges::same_before(edges, a) {
         return false;

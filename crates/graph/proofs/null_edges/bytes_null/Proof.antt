@@ -4,7 +4,7 @@ use borrow.Author.Needs.{needs}
 use Prim.Native.Nat.{_-_, _≤_}
 use native.Mathlib.Omega.{arith}
 use Rattle.graph.specs.EdgeRows.{Between, Null}
-use Rattle.graph.proofs.ExactTests.{test-passes, test-fails}
+use Rattle.bounded.proofs.Tells.{tells-passed, tells-failed}
 use Rattle.graph.proofs.Runs.{run-none, run-one, run-at, run-join, run-part}
 use Rattle.graph.proofs.null_edges.bytes_null.Statement.{statement}
 use Rattle.graph.proofs.null_edges.bytes_null.Tie as tie
@@ -22,7 +22,7 @@ shared-slice-read-if1 : tie.Need-shared-slice-read-if1 Inv-loop μ-loop
 shared-slice-read-if1 c = search needs
 
 returns : tie.Need-returns Inv-loop μ-loop
-returns c = test-fails (λ null. c .if1 .taken (run-at _ _ _ _ null (c .before .before .before .loop .inv .0) (c .before .before .loop-test .taken)))
+returns c = tells-failed (λ null. c .if1 .taken (run-at _ _ _ _ null (c .before .before .before .loop .inv .0) (c .before .before .loop-test .taken)))
 
 add-place : tie.Need-add-place Inv-loop μ-loop
 add-place c = search needs
@@ -36,7 +36,7 @@ loop-again c =
     (omega arith, run-join _ _ _ _ (kept .1) (run-one _ _ (c .if1 .left)))
 
 returns-2 : tie.Need-returns-2 Inv-loop μ-loop
-returns-2 c = test-passes (run-part _ _ _ _ _ (omega arith) (c .loop-test .left) (c .before .loop .inv .1))
+returns-2 c = tells-passed (run-part _ _ _ _ _ (omega arith) (c .loop-test .left) (c .before .loop .inv .1))
 
 pub bytes-null-spec : {M : Type 1} → statement M
 bytes-null-spec =

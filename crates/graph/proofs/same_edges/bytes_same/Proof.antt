@@ -5,7 +5,7 @@ use Prim.Native.Nat.{_-_, _≤_}
 use native.Mathlib.Omega.{arith}
 use Rattle.graph.specs.EdgeRows.{Between, Same}
 use Rattle.graph.proofs.Runs.{run-none, run-one, run-at, run-join, run-part}
-use Rattle.graph.proofs.ExactTests.{test-passes, test-fails}
+use Rattle.bounded.proofs.Tells.{tells-passed, tells-failed}
 use Rattle.graph.proofs.same_edges.bytes_same.Statement.{statement}
 use Rattle.graph.proofs.same_edges.bytes_same.Tie as tie
 
@@ -37,7 +37,7 @@ shared-slice-read-if1-2 : tie.Need-shared-slice-read-if1-2 Inv-loop μ-loop
 shared-slice-read-if1-2 c = search needs
 
 returns : tie.Need-returns Inv-loop μ-loop
-returns c = test-fails (λ same. c .if1 .taken (run-at _ _ _ _ same (c .before .before .before .before .loop .inv .0) (c .before .before .before .loop-test .taken)))
+returns c = tells-failed (λ same. c .if1 .taken (run-at _ _ _ _ same (c .before .before .before .before .loop .inv .0) (c .before .before .before .loop-test .taken)))
 
 add-b : tie.Need-add-b Inv-loop μ-loop
 add-b c = search needs
@@ -51,7 +51,7 @@ loop-again c =
     (omega arith, run-join _ _ _ _ (kept .1) (run-one _ _ (c .if1 .left)))
 
 returns-2 : tie.Need-returns-2 Inv-loop μ-loop
-returns-2 c = test-passes (run-part _ _ _ _ _ (omega arith) (c .loop-test .left) (c .before .loop .inv .1))
+returns-2 c = tells-passed (run-part _ _ _ _ _ (omega arith) (c .loop-test .left) (c .before .loop .inv .1))
 
 pub bytes-same-spec : {M : Type 1} → statement M
 bytes-same-spec =

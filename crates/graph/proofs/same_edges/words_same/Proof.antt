@@ -6,7 +6,7 @@ use mathlib.Core.Path.{_≡_}
 use Prim.Native.Nat.{_-_, _%_}
 use native.Mathlib.Omega.{arith}
 use Rattle.graph.specs.EdgeRows.{Between, Same}
-use Rattle.graph.proofs.ExactTests.{test-passes}
+use Rattle.bounded.proofs.Tells.{tells-passed}
 use Rattle.graph.proofs.Runs.{run-none, run-join, run-part, run-fails}
 use Rattle.graph.proofs.same_edges.words_same.Statement.{statement}
 use Rattle.graph.proofs.same_edges.words_same.Tie as tie
@@ -38,7 +38,7 @@ loop-again c =
     (omega arith, run-join _ _ _ _ (r .before .before .loop .inv .1) (r .eight-same .ensures .0 (not-false _ (c .if1 .left))))
 
 returns-2 : tie.Need-returns-2 Inv-loop μ-loop
-returns-2 c = test-passes (run-part _ _ _ _ _ (omega arith) (c .loop-test .left) (c .before .loop .inv .1))
+returns-2 c = tells-passed (run-part _ _ _ _ _ (omega arith) (c .loop-test .left) (c .before .loop .inv .1))
 
 pub words-same-spec : {M : Type 1} → statement M
 words-same-spec =

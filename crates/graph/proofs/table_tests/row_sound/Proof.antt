@@ -1,7 +1,7 @@
--- `graph::table_tests::row_sound` meets its contract: each test tells one part of `RowSound`.
+-- `graph::table_tests::row_sound` meets its contract: each test tells one part of `VertexRow`.
 -- Assumes nothing.
 use borrow.Author.Tests.{not-true, not-false}
-use Rattle.graph.proofs.ExactTests.{test-fails, test-refutes}
+use Rattle.bounded.proofs.Tells.{tells-failed, tells-refuted}
 use borrow.Author.Needs.{needs}
 use Rattle.graph.proofs.table_tests.row_sound.Statement.{statement}
 use Rattle.graph.proofs.table_tests.row_sound.Tie as tie
@@ -10,7 +10,7 @@ same-before-requires : tie.Need-same-before-requires
 same-before-requires c κs = search needs
 
 returns : tie.Need-returns
-returns c = test-fails (λ row. test-refutes (c .before .same-before .ensures) (not-true _ (c .if1 .taken)) (row .0))
+returns c = tells-failed (λ row. tells-refuted (c .before .same-before .ensures) (not-true _ (c .if1 .taken)) (row .0))
 
 mul-if2 : tie.Need-mul-if2
 mul-if2 c = search needs
@@ -22,7 +22,7 @@ shared-slice-read-if2 : tie.Need-shared-slice-read-if2
 shared-slice-read-if2 c = search needs
 
 returns-2 : tie.Need-returns-2
-returns-2 c = test-fails (λ row. c .if2 .taken (row .1))
+returns-2 c = tells-failed (λ row. c .if2 .taken (row .1))
 
 columns-null-requires : tie.Need-columns-null-requires
 columns-null-requires c κs = search needs
