@@ -32,11 +32,9 @@
 
 #include "golfcedar.h"
 
-/* No graph has more bytes than this. */
-#define GRAPH_BYTES 8193
 #define SAVED_BYTES                                                                                \
-    (2 + GRAPH_BYTES + 2 + GRAPH_BYTES + 2 + GOLFCEDAR_SUBSTITUTES_BYTES + 2 +                     \
-     GOLFCEDAR_CHECKPOINT_BYTES)
+    (2 + GOLFCEDAR_GRAPH_BYTES + 2 + GOLFCEDAR_GRAPH_BYTES + 2 + GOLFCEDAR_SUBSTITUTES_BYTES +     \
+     2 + GOLFCEDAR_CHECKPOINT_BYTES)
 
 /* Room for every file that can be accepted, and a byte more by which a longer one is refused. */
 struct bytes {

@@ -16,8 +16,7 @@
  *    1       of a graph's bytes: operands are cut off, or the end is missing             place
  *    2       unknown command                                                             place
  *    3, 4    a vertex with label 0; a 65th vertex                                        place
- *    5 to 8  an edge of a vertex not yet given; of a vertex with itself; with label 0;
- *            given already                                                               place
+ *    5, 7, 8 an edge of a vertex not yet given; with label 0; given already              place
  *    9       bytes after the end                                                         place
  *    13      what is to be written does not fit into its buffer                          0
  *    14      the checkpoint is not in shape for these graphs and this list               0
@@ -26,14 +25,15 @@
  *    17      checkpoint bytes not in the form                                            place
  *    18      a mapping whose length is not the number of old vertices                    0
  *    19, 21  of a mapping's row: no new vertex; labels do not agree                      row
+ *    22      of the row with itself: edges differ                                        row (`earlier` has the same row)
  *    20, 22  against an earlier row: the same new vertex; edges differ                   row (`earlier` has the earlier one)
  *    23      substitutes of odd length, or of more than 512 bytes                        0
  *    24      a label 0 among the substitutes                                             0
  *    25      more than eight old vertices, for `golfcedar_clique`                        0
  *
  * A place is an offset: that of the command at fault, of the first byte that cannot stand there, or the length where the end is missing.
- * 10, 11 and 12, of lent tables, are never given. Where two graphs are given, the old one is read first; if `golfcedar_check_graph` accepts the old one, a
- * number from 1 to 9 is about the new one.
+ * 6 is no refusal's number, and 10, 11 and 12, of lent tables, are never given. Where two graphs are given, the old one is read first; if
+ * `golfcedar_check_graph` accepts the old one, a number from 1 to 9 is about the new one.
  *
  * `substitutes` says which vertex labels agree beside equal ones, which always do: pairs of bytes, the label of an old vertex, then the label of a new vertex
  * that may stand in for it; at most 256 pairs. A pair holds one way only, and pairs do not chain: by 7 8 8 9 an old 7 does not agree with a new 9. A list of
@@ -50,6 +50,8 @@
 extern "C" {
 #endif
 
+/* No graph has more bytes than this. */
+#define GOLFCEDAR_GRAPH_BYTES 8449
 /* No checkpoint has more bytes than this. */
 #define GOLFCEDAR_CHECKPOINT_BYTES 270
 /* A search call needs this many words of 64 bits. */
@@ -65,8 +67,9 @@ extern "C" {
 uint32_t golfcedar_check_graph(const uint8_t *graph, size_t graph_len, uint64_t *value);
 
 /* Is this mapping, one byte for each old vertex, a common subgraph? Accepted: *value is its size, *earlier is 0.
- * Refused: 1 to 9; 23; 24; 18; 19 to 22. So it also tells why a vertex cannot stay: map it to the new vertex in question, and the number and the rows
- * say what is against it. */
+ * Refused: 1 to 9; 23; 24; 18; then row by row 19, 21, 22 of the row with itself (both vertices need the same edge with themselves, or none), and against each
+ * earlier row, rising, 20, 22. So it also tells why a vertex cannot stay: map it to the new vertex in question, and the number and the rows say what is
+ * against it. */
 uint32_t golfcedar_check_mapping(const uint8_t *old_graph, size_t old_len, const uint8_t *new_graph, size_t new_len,
                                  const uint8_t *substitutes, size_t substitutes_len, const uint8_t *mapping, size_t mapping_len,
                                  uint64_t *value, uint64_t *earlier);

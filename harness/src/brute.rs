@@ -36,7 +36,8 @@ fn is_common(problem: &Problem, list: &[u8]) -> bool {
     pairs.iter().all(|&(x, y)| {
         agreeing(old.label(x)).any(|label| label == new.label(y))
             && pairs.iter().all(|&(other_x, other_y)| {
-                x == other_x || (y != other_y && old.edge(x, other_x) == new.edge(y, other_y))
+                // also of a pair with itself
+                (x == other_x) == (y == other_y) && old.edge(x, other_x) == new.edge(y, other_y)
             })
     })
 }

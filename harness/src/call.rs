@@ -4,7 +4,7 @@ use std::fmt::{self, Display};
 use std::ops::Range;
 
 use crate::answer::Answer;
-use crate::reference::{UNMAPPED, WORKSPACE_WORDS};
+use crate::reference::{Graph, UNMAPPED, WORKSPACE_WORDS};
 use crate::{library, reference};
 
 /// The six functions of include/golfcedar.h.
@@ -255,17 +255,34 @@ impl Call {
         }
     }
 
-    /// This call with the empty list.
-    pub fn without_substitutes(mut self) -> Call {
-        match &mut self {
-            Call::CheckGraph { .. } => {}
+    fn given_mut(&mut self) -> Option<&mut Given> {
+        match self {
+            Call::CheckGraph { .. } => None,
             Call::CheckMapping { given, .. }
             | Call::Start { given, .. }
             | Call::Resume(Resume { given, .. })
             | Call::ReadOut { given, .. }
-            | Call::Clique(Clique { given, .. }) => given.substitutes.clear(),
+            | Call::Clique(Clique { given, .. }) => Some(given),
+        }
+    }
+
+    /// This call with the empty list.
+    pub fn without_substitutes(mut self) -> Call {
+        if let Some(given) = self.given_mut() {
+            given.substitutes.clear();
         }
         self
+    }
+
+    /// This call on the same two graphs without their own edges. None where it is on a single graph,
+    /// or one of the two is refused.
+    pub fn without_own_edges(mut self) -> Option<Call> {
+        let given = self.given_mut()?;
+        for bytes in [&mut given.old, &mut given.new] {
+            let graph = Graph::parse(bytes).ok()?;
+            *bytes = graph.with_own_edges(|_, _| 0).save();
+        }
+        Some(self)
     }
 
     fn function(&self) -> &'static str {

@@ -23,8 +23,11 @@ const FEW_NODES: usize = 20_000;
 pub struct Style {
     pub vertex_labels: Vec<u8>,
     pub edge_labels: Vec<u8>,
-    /// Chance of an edge, in percent.
+    /// Chance of an edge of two vertices, in percent.
     pub density: usize,
+    /// Chance of an own edge, in percent. Most of them have the first of the edge labels: so most
+    /// vertices agree by their own edges where the chance is high, as well as where it is low.
+    pub own: usize,
 }
 
 impl Style {
@@ -42,6 +45,15 @@ impl Style {
             vertex_labels,
             edge_labels,
             density: random.pick(&[0, 20, 30, 30, 50, 80, 100]),
+            own: random.pick(&[0, 0, 0, 10, 30, 90, 100]),
+        }
+    }
+
+    fn own_edge(&self, random: &mut Random) -> u8 {
+        if random.percent(85) {
+            self.edge_labels[0]
+        } else {
+            random.pick(&self.edge_labels)
         }
     }
 }
@@ -57,11 +69,17 @@ pub fn graph(random: &mut Random, style: &Style, order: usize) -> Graph {
             }
         }
     }
-    graph
+    if style.own == 0 {
+        return graph;
+    }
+    graph.with_own_edges(|_, _| match random.percent(style.own) {
+        true => style.own_edge(random),
+        false => 0,
+    })
 }
 
 /// Two graphs of the same style; at times the new one is a part of the old one, shuffled, and at
-/// times it has newer labels.
+/// times it has newer labels, or other own edges.
 pub fn problem(random: &mut Random, orders: Range<usize>) -> Problem {
     let style = Style::random(random);
     let order = random.within(orders.clone());
@@ -79,6 +97,63 @@ pub fn problem(random: &mut Random, orders: Range<usize>) -> Problem {
         empty = 10;
     }
     let substitutes = substitutes(random, &old, &new, empty);
+    let problem = Problem {
+        old,
+        new,
+        substitutes,
+    };
+    with_other_own_edges(random, &style, problem)
+}
+
+/// At times one of the two graphs loses its own edges, or some of the new one are changed.
+fn with_other_own_edges(random: &mut Random, style: &Style, problem: Problem) -> Problem {
+    let Problem {
+        mut old,
+        mut new,
+        substitutes,
+    } = problem;
+    match random.within(0..10) {
+        _ if style.own == 0 => {}
+        0 => old = old.with_own_edges(|_, _| 0),
+        1 => new = new.with_own_edges(|_, _| 0),
+        2..5 => {
+            new = new.with_own_edges(|_, label| match random.within(0..10) {
+                0 => 0,
+                1 => style.own_edge(random),
+                2 => random.pick(&style.edge_labels),
+                _ => label,
+            })
+        }
+        _ => {}
+    }
+    Problem {
+        old,
+        new,
+        substitutes,
+    }
+}
+
+/// The same problem, but for own edges of one of its graphs or both: some or all have another label,
+/// or are no more.
+pub fn other_own_edges(random: &mut Random, problem: &Problem) -> Problem {
+    let Problem {
+        mut old,
+        mut new,
+        substitutes,
+    } = problem.clone();
+    let which = random.within(0..3);
+    let chance = random.pick(&[10, 30, 100]);
+    let label = random.pick(&[0, 0, ALPHABET[0], ALPHABET[1]]);
+    let mut other = |_, before| match random.percent(chance) {
+        true => label,
+        false => before,
+    };
+    if which != 0 {
+        old = old.with_own_edges(&mut other);
+    }
+    if which != 1 {
+        new = new.with_own_edges(&mut other);
+    }
     Problem {
         old,
         new,
@@ -114,7 +189,7 @@ pub fn crowded_problem(random: &mut Random) -> Problem {
         let label = label_of(random, &problem.old);
         problem.old.add_vertex(label).unwrap();
         if random.percent(50) {
-            let end = random.within(0..vertex);
+            let end = random.within(0..vertex + 1);
             let label = random.pick(&ALPHABET);
             problem.old.add_edge(end, vertex, label).unwrap();
         }
@@ -132,11 +207,12 @@ fn wide_problem(random: &mut Random) -> Problem {
     let new = graph(random, &style, order);
     let old = shuffled_part(random, &new).first(random.within(0..CLIQUE_VERTICES + 1));
     let substitutes = substitutes(random, &old, &new, 50);
-    Problem {
+    let problem = Problem {
         old,
         new,
         substitutes,
-    }
+    };
+    with_other_own_edges(random, &style, problem)
 }
 
 fn has_many_nodes(problem: &Problem) -> bool {
@@ -285,7 +361,7 @@ fn shuffled_part(random: &mut Random, whole: &Graph) -> Graph {
     let mut part = Graph::default();
     for (number, &vertex) in vertices.iter().enumerate() {
         part.add_vertex(whole.label(vertex)).unwrap();
-        for (earlier, &other) in vertices[..number].iter().enumerate() {
+        for (earlier, &other) in vertices[..=number].iter().enumerate() {
             match whole.edge(other, vertex) {
                 0 => {}
                 label => part.add_edge(earlier, number, label).unwrap(),
@@ -346,10 +422,11 @@ fn small_graph_bytes(random: &mut Random) -> Vec<u8> {
     graph_bytes(random, &graph)
 }
 
-/// None or 64 vertices, or a command for a 65th; no edges or all; sometimes damaged.
+/// None or 64 vertices, or a command for a 65th; no edges or all, own edges too; sometimes damaged.
 fn extreme_graph_bytes(random: &mut Random) -> Vec<u8> {
     let mut style = Style::random(random);
     style.density = random.pick(&[0, 0, 0, 10, 100]);
+    style.own = random.pick(&[0, 10, 100, 100]);
     let order = random.pick(&[0, 63, 64, 64]);
     let graph = graph(random, &style, order);
     let mut bytes = graph.save();

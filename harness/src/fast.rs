@@ -3,8 +3,8 @@
 //! - For each number of pairs on the path there is a level: the candidate word of each row. Beside
 //!   the words goes the set of the rows that have candidates, and the upper bound. A row that is
 //!   left out changes no word.
-//! - A pair meets each row of the set with one mask: the new vertices whose edge to the paired one
-//!   has the label of the old edge.
+//! - A pair meets each row of the set with one mask: the other new vertices whose edge to the paired
+//!   one has the label of the old edge. Own edges are read for the words of the root only.
 //! - A node is left early. Its bound is its parent's, less one for each row that loses its last
 //!   candidate. The rows with an edge to the row just mapped come first, since most losses are
 //!   among them. If they leave the bound below the cutoff, the others are not looked at; else these
@@ -67,7 +67,8 @@ struct Tables {
     /// For each old vertex: the rows to meet first, those with an edge to it. Where edges are many
     /// it is all rows: a second loop then costs more in mispredictions than it saves.
     first: Vec<u64>,
-    /// The class of each old edge. Classes number the labels of old edges, the null edge's first.
+    /// The class of each edge of two old vertices. Classes number the labels of these edges, the
+    /// null edge's first.
     classes: Vec<[u8; MAX_VERTICES]>,
     class_count: usize,
     /// For each new vertex and class: the other new vertices with an edge of that class to it.
@@ -213,14 +214,18 @@ fn root(problem: &Problem) -> Level {
         substitutes,
     } = problem;
     let mut labelled = [0; 256];
+    // by the label of its own edge, 0 for none
+    let mut holding = [0; 256];
     for vertex in 0..new.order() {
         labelled[usize::from(new.label(vertex))] |= 1 << vertex;
+        holding[usize::from(new.own_edge(vertex))] |= 1 << vertex;
     }
     let mut agreeing = labelled;
     for &[from, to] in &substitutes.pairs {
         agreeing[usize::from(from)] |= labelled[usize::from(to)];
     }
-    let candidates = |row| agreeing[usize::from(old.label(row))];
+    let candidates =
+        |row| agreeing[usize::from(old.label(row))] & holding[usize::from(old.own_edge(row))];
     array::from_fn(|row| {
         if row < old.order() {
             candidates(row)
@@ -233,18 +238,19 @@ fn root(problem: &Problem) -> Level {
 impl Tables {
     fn new(problem: &Problem) -> Tables {
         let Problem { old, new, .. } = problem;
-        let mut labels: Vec<u8> = old.edges().map(|(_, _, label)| label).chain([0]).collect();
+        let edges: Vec<_> = old.edges().filter(|(a, b, _)| a != b).collect();
+        let mut labels: Vec<u8> = edges.iter().map(|edge| edge.2).chain([0]).collect();
         labels.sort();
         labels.dedup();
         let class_of = |label| labels.binary_search(&label).ok();
         let mut first = vec![0; old.order()];
         let mut classes = vec![[0; MAX_VERTICES]; old.order()];
-        for (a, b, label) in old.edges() {
+        for &(a, b, label) in &edges {
             first[a] |= 1 << b;
             classes[a][b] = class_of(label).expect("a label of the old graph") as u8;
         }
         let pairs = old.order() * old.order() / 2;
-        if old.edges().count() > pairs / MANY_EDGES {
+        if edges.len() > pairs / MANY_EDGES {
             first.fill(u64::MAX);
         }
         let mut masks = vec![0; labels.len() * new.order()];

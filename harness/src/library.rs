@@ -85,6 +85,8 @@ mod c {
     }
 }
 
+/// No graph has more bytes.
+pub const GRAPH_BYTES: usize = 8449;
 pub const CHECKPOINT_BYTES: usize = 270;
 pub const WORKSPACE_WORDS: usize = 4160;
 pub const SUBSTITUTES_BYTES: usize = 512;

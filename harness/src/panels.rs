@@ -11,18 +11,29 @@ const EDGE_LABELS: [u8; 3] = [1, 2, 3];
 const CHANGED: usize = 5;
 
 /// A panel, and a copy of it in which a fifth of the vertices is changed, in another numbering.
-pub fn problem(random: &mut Random, order: usize, vertex_labels: u8) -> Problem {
+/// `holding` is the chance of an own edge, in percent.
+pub fn problem(random: &mut Random, order: usize, vertex_labels: u8, holding: usize) -> Problem {
     let vertex_labels: Vec<u8> = (1..=vertex_labels).collect();
-    let panel = Panel::random(random, order, &vertex_labels);
+    let mut panel = Panel::random(random, order, &vertex_labels);
     let mut copy = panel.clone();
     copy.change(random, &vertex_labels);
-    let mut numbers: Vec<usize> = (0..order).collect();
-    let old = panel.graph(&numbers);
-    random.shuffle(&mut numbers);
-    let new = copy.graph(&numbers);
+    let numbers: Vec<usize> = (0..order).collect();
+    let mut shuffled = numbers.clone();
+    random.shuffle(&mut shuffled);
+    // drawn last: all else is the same whether there are own edges or not
+    if holding > 0 {
+        let mut own_edge = || match random.percent(holding) {
+            true => random.pick(&EDGE_LABELS),
+            false => 0,
+        };
+        panel.own_edges.fill_with(&mut own_edge);
+        copy.own_edges.clone_from(&panel.own_edges);
+        let changed = copy.own_edges.iter_mut().step_by(CHANGED);
+        changed.for_each(|own| *own = own_edge());
+    }
     Problem {
-        old,
-        new,
+        old: panel.graph(&numbers),
+        new: copy.graph(&shuffled),
         substitutes: Substitutes::default(),
     }
 }
@@ -30,8 +41,10 @@ pub fn problem(random: &mut Random, order: usize, vertex_labels: u8) -> Problem 
 #[derive(Clone)]
 struct Panel {
     labels: Vec<u8>,
-    /// By their ends, the smaller first.
+    /// By their ends, the smaller first; no own edges.
     edges: BTreeMap<(usize, usize), u8>,
+    /// One for each vertex, 0 for none.
+    own_edges: Vec<u8>,
 }
 
 impl Panel {
@@ -40,6 +53,7 @@ impl Panel {
         let mut panel = Panel {
             labels: (0..order).map(|_| random.pick(vertex_labels)).collect(),
             edges: BTreeMap::new(),
+            own_edges: vec![0; order],
         };
         for vertex in 1..order {
             let end = random.within(0..vertex);
@@ -89,6 +103,6 @@ impl Panel {
                 }
             }
         }
-        graph
+        graph.with_own_edges(|number, _| self.own_edges[numbers[number]])
     }
 }

@@ -26,7 +26,6 @@ pub enum Reason {
     VertexLabelZero = 3,
     TooManyVertices = 4,
     VertexNotGiven = 5,
-    EdgeToItself = 6,
     EdgeLabelZero = 7,
     EdgeGivenAlready = 8,
     BytesAfterEnd = 9,

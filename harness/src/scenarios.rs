@@ -27,15 +27,16 @@ pub struct Kind {
     scenario: Scenario,
 }
 
-pub const KINDS: [Kind; 13] = [
-    kind("graph", 160, graph),
+pub const KINDS: [Kind; 14] = [
+    kind("graph", 150, graph),
     kind("mapping", 180, mapping),
     kind("start", 50, start),
     kind("room", 40, room),
     kind("crafted", 165, crafted),
-    kind("damaged", 160, damaged),
+    kind("damaged", 150, damaged),
     kind("small", 130, small),
     kind("relisted", 30, relisted),
+    kind("rewired", 20, rewired),
     kind("middle", 22, middle),
     kind("large", 3, large),
     kind("long", 5, long),
@@ -70,6 +71,9 @@ pub struct Judge {
     /// How often a list was at fault, or clique branching had too many old vertices: by the number,
     /// and by what the call answers without that fault, 0 where nothing else is wrong.
     pub faults: BTreeMap<(u32, u32), u64>,
+    /// How often own edges were what a call was refused for: by its number, and by what the call
+    /// answers without any own edges, 0 where nothing else is wrong.
+    pub own_edges: BTreeMap<(u32, u32), u64>,
     /// Print the calls that agree too.
     pub aloud: bool,
 }
@@ -90,6 +94,10 @@ impl Judge {
         for (fault, without) in faults(&call) {
             let beside = without.made_by(&REFERENCE).answer.number;
             *self.faults.entry((fault, beside)).or_default() += 1;
+        }
+        let number = expected.answer.number;
+        if let Some(without) = refused_for_own_edges(&call, &expected) {
+            *self.own_edges.entry((number, without)).or_default() += 1;
         }
         let both = || {
             let [library, wanted] = [&outcome, &expected].map(|outcome| outcome.describe(&call));
@@ -126,6 +134,26 @@ fn faults(call: &Call) -> Vec<(u32, Call)> {
         }
     }
     faults
+}
+
+/// What the call answers without any own edges, if they are what it is refused for: a checkpoint
+/// that is in shape without them, or a row of a mapping that is named twice.
+fn refused_for_own_edges(call: &Call, expected: &Outcome) -> Option<u32> {
+    let Answer {
+        number,
+        value,
+        earlier,
+        ..
+    } = expected.answer;
+    let without = || {
+        let call = call.clone().without_own_edges()?;
+        Some(call.made_by(&REFERENCE).answer.number)
+    };
+    match number {
+        14 => without().filter(|&without| without != 14),
+        22 if value == earlier => without(),
+        _ => None,
+    }
 }
 
 fn graph(judge: &mut Judge, random: &mut Random) -> Verdict<()> {
@@ -283,11 +311,34 @@ fn small(judge: &mut Judge, random: &mut Random) -> Verdict<()> {
 fn relisted(judge: &mut Judge, random: &mut Random) -> Verdict<()> {
     let problem = cases::problem(random, 1..9);
     let minimum = random.pick(&[0, 0, 1, 2]);
-    let mut caller = Caller::start(judge, random, &problem, minimum)?;
-    let first = problem.substitutes.save();
-    let other = cases::other_substitutes(random, &problem).save();
-    for substitutes in [first.clone(), other, first] {
-        caller.given.substitutes = substitutes;
+    let caller = Caller::start(judge, random, &problem, minimum)?;
+    let other = Given {
+        substitutes: cases::other_substitutes(random, &problem).save(),
+        ..caller.given.clone()
+    };
+    there_and_back(judge, random, caller, other)
+}
+
+/// The same with other own edges of one of the graphs or both.
+fn rewired(judge: &mut Judge, random: &mut Random) -> Verdict<()> {
+    let problem = cases::problem(random, 1..9);
+    let minimum = random.pick(&[0, 0, 1, 2]);
+    let caller = Caller::start(judge, random, &problem, minimum)?;
+    let other = cases::other_own_edges(random, &problem);
+    let other = given(random, &other);
+    there_and_back(judge, random, caller, other)
+}
+
+/// The search goes on, is given something else for a while, and then what it began with.
+fn there_and_back(
+    judge: &mut Judge,
+    random: &mut Random,
+    mut caller: Caller,
+    other: Given,
+) -> Verdict<()> {
+    let first = caller.given.clone();
+    for given in [first.clone(), other, first] {
+        caller.given = given;
         caller.read_out(judge, random)?;
         let budget = random.within(0..40) as u64;
         caller.resume(judge, random, budget)?;

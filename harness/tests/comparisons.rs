@@ -28,6 +28,7 @@ fn heavy_calls() -> [Call; 6] {
         vertex_labels: vec![7],
         edge_labels: vec![1, 2],
         density: 100,
+        own: 100,
     };
     let bytes = |seed| graph(&mut Random::new(seed), &style, MAX_VERTICES).save();
     let given = Given {
@@ -73,6 +74,7 @@ fn deep_clique() -> Clique {
             vertex_labels: vec![7],
             edge_labels: vec![edge_label],
             density: 100,
+            own: 0,
         };
         graph(&mut Random::new(0), &style, order).save()
     };

@@ -304,23 +304,23 @@ fn at_most_256_substitutes_are_taken() {
 fn the_longest_file_is_saved_and_loaded() {
     both("longest", |folder, program| {
         let vertices = [1, 7].repeat(64);
-        let edges = (0..64).flat_map(|a| (a + 1..64).flat_map(move |b| [2, a, b, 1]));
+        let edges = (0..64).flat_map(|a| (a..64).flat_map(move |b| [2, a, b, 1]));
         let graph: Vec<u8> = vertices.into_iter().chain(edges).chain([0]).collect();
-        assert_eq!(graph.len(), 8193);
+        assert_eq!(graph.len(), 8449);
         folder.write("old", &graph);
         folder.write("new", &graph);
         let pairs = ["255:1"; 256];
         // 64 vertices are mapped, and the next node too decides all of them
         let held = folder.printed_with(program, &pairs, &["65"]);
         assert!(held.starts_with("state unfinished\nsteps 65\nsize 64\nceiling 65\n"));
-        let longest = 2 + 8193 + 2 + 8193 + 2 + 512 + 2 + 270;
+        let longest = 2 + 8449 + 2 + 8449 + 2 + 512 + 2 + 270;
         assert_eq!(folder.saved().unwrap().len(), longest);
         let finished = folder.printed_with(program, &pairs, &["100000"]);
         assert!(finished.starts_with("state finished\n") && finished.ends_with("63 maps to 63\n"));
         folder.write("new", &[&graph[..], &[0]].concat());
         assert_eq!(
             folder.refused(program, &["1"]),
-            "new graph new: refused 9 (8193)"
+            "new graph new: refused 9 (8449)"
         );
     });
 }

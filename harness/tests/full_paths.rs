@@ -37,11 +37,16 @@ fn calls(resume: Resume, graph: &[u8], budgets: [u64; 4]) -> Vec<(Answer, Vec<u8
 
 #[test]
 fn every_vertex_is_paired() {
-    for order in [0, 1, 2, 62, 63, 64] {
+    let orders = [0, 1, 2, 62, 63, 64];
+    for (order, own) in orders
+        .into_iter()
+        .flat_map(|order| [(order, 0), (order, 100)])
+    {
         let style = Style {
             vertex_labels: vec![1],
             edge_labels: vec![1],
             density: 100,
+            own,
         };
         let graph = graph(&mut Random::new(0), &style, order).save();
         // up to the first full path, over it, and back down the other choices
@@ -49,7 +54,7 @@ fn every_vertex_is_paired() {
         assert_eq!(
             calls(library::resume, &graph, budgets),
             calls(reference::resume, &graph, budgets),
-            "{order} vertices"
+            "{order} vertices, own edges {own} %"
         );
     }
 }

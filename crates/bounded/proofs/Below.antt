@@ -5,11 +5,11 @@ use mathlib.Core.List.{List, _++_}
 use Prim.Native.Nat.{ℕ, zero, suc, _+_, _*_, _-_, _≤_, _<_}
 use native.Mathlib.Nat.{le-refl, mul-zero, mul-suc, mul-add}
 use native.Mathlib.Numerals.{add-one}
-use native.Mathlib.Decide.{le-ind}
+use native.Mathlib.Decide.{le-ind, ℕ-discrete}
 use native.Mathlib.Omega.{arith}
-use lib.Dec.{ltb}
+use lib.Dec.{leb}
 use lib.ListN.{length, length-append}
-use borrow.Author.Tests.{ltb-true}
+use borrow.Author.Tests.{leb-true}
 use Rattle.bounded.specs.Below.{sumBelow, runBelow}
 
 -- A sum over one number more has that number's term added.
@@ -41,6 +41,16 @@ sumBelow-le (suc n) f h each =
     let last = each n (le-refl (suc n)) in
     omega arith
 
+-- Where one of them is less besides, so is the sum.
+pub sumBelow-lt : (n : ℕ) (f h : ℕ → ℕ) → ((k : ℕ) → k < n → f k ≤ h k) → (m : ℕ) → m < n → f m < h m → sumBelow n f < sumBelow n h
+unfolding sumBelow
+sumBelow-lt zero f h each m l less = omega (arith, l)
+sumBelow-lt (suc n) f h each m l less =
+    elim (ℕ-discrete m n) [
+      | yes e ↦ omega (arith, sumBelow-le n f h (λ k b. each k (omega arith)), rw e at less)
+      | no e ↦ omega (arith, sumBelow-lt n f h (λ k b. each k (omega arith)) m (omega (arith, e)) less, each n (le-refl (suc n)))
+    ]
+
 -- A sum over more numbers is at least as great.
 pub sumBelow-more : (m n : ℕ) (f : ℕ → ℕ) → m ≤ n → sumBelow m f ≤ sumBelow n f
 unfolding sumBelow
@@ -63,20 +73,20 @@ unfolding sumBelow
 sumBelow-mul zero c f = sym (mul-zero c)
 sumBelow-mul (suc n) c f = ap₂ _+_ (sumBelow-mul n c f) refl ∙ sym (mul-add c (sumBelow n f) (f n))
 
--- one more number counts as above a only where the difference grows
-one-above : (n a : ℕ) (u : Bool) → cond (ltb a n && u) 1 0 ≤ (n - a) - (n - suc a)
-one-above n a u = go (ltb a n) u refl
+-- one more number counts as a or above only where the difference grows
+one-from : (n a : ℕ) (u : Bool) → cond (leb a n && u) 1 0 ≤ (suc n - a) - (n - a)
+one-from n a u = go (leb a n) u refl
   where
-    go : (t u : Bool) → ltb a n ≡ t → cond (t && u) 1 0 ≤ (n - a) - (n - suc a)
-    go true true e = omega (arith, ltb-true a n e)
+    go : (t u : Bool) → leb a n ≡ t → cond (t && u) 1 0 ≤ (suc n - a) - (n - a)
+    go true true e = omega (arith, leb-true a n e)
     go true false e = omega arith
     go false u e = omega arith
 
--- Of the numbers below n, at most n - suc a are above a, whatever else is asked of them.
-pub count-above : (n a : ℕ) (t : ℕ → Bool) → sumBelow n (λ b. cond (ltb a b && t b) 1 0) ≤ n - suc a
+-- Of the numbers below n, at most n - a are a or above, whatever else is asked of them.
+pub count-from : (n a : ℕ) (t : ℕ → Bool) → sumBelow n (λ b. cond (leb a b && t b) 1 0) ≤ n - a
 unfolding sumBelow
-count-above zero a t = omega arith
-count-above (suc n) a t =
-    let before = count-above n a t in
-    let last = one-above n a (t n) in
+count-from zero a t = omega arith
+count-from (suc n) a t =
+    let before = count-from n a t in
+    let last = one-from n a (t n) in
     omega arith

@@ -3,3 +3,4 @@ pub mod Below
 pub mod SomeBelow
 pub mod First
 pub mod Tells
+pub mod Settled

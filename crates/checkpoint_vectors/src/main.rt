@@ -297,7 +297,8 @@ fn save(name: &[u8], depth: usize, edge: u8, substitutes: &[u8], out: &mut [u8])
     labels[0] = 7;
     labels[1] = 7;
     labels[2] = 7;
-    edges[0] = edge;
+    // one way only
+    edges[1] = edge;
     let mut path = [0u8; 64];
     path[0] = 255;
     path[1] = 255;

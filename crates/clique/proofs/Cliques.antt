@@ -66,7 +66,7 @@ common-clique P l c = record { vertices = vertices; distinct = distinct; connect
     vertices i h =
         let k = pairs-inside l i h in
         rw (pairs-at l i k, lt-ltb (x l i) (P .old .order) (omega (arith, x-below l i k, c .entries)))
-        (facts-allowed P (x l i) (y l i) (c .image i k) (c .vertices i k))
+        (facts-allowed P (x l i) (y l i) (c .image i k) (c .vertices i k) (c .edges i i k k))
 
     distinct : (i j : ℕ) → i < length (pairsOf l) → j < length (pairsOf l) → pairAt (pairsOf l) i ≡ pairAt (pairsOf l) j → i ≡ j
     distinct i j hi hj e =
@@ -80,7 +80,7 @@ common-clique P l c = record { vertices = vertices; distinct = distinct; connect
         let kj = pairs-inside l j hj in
         rw (pairs-at l i ki, pairs-at l j kj)
         (facts-joined P (pair (x l i) (y l i)) (pair (x l j) (y l j)) (λ e. ne (x-injective l i j ki kj e)) (λ e. ne (c .injective i j ki kj e))
-        (c .edges i j ki kj ne))
+        (c .edges i j ki kj))
 
 -- The mapping made of a common subgraph's pairs is that common subgraph.
 pub common-mapping : (P : Problem) (l : List ℕ) → Common P l → mappingOf (P .old .order) (pairsOf l) ≡ l

@@ -1,4 +1,4 @@
--- The search by what the code is lent is the search of the problem that was lent: the sets of vertices whose labels agree give the same candidates.
+-- The search by what the code is lent is the search of the problem that was lent: the sets of vertices that an old one may lie on give the same candidates.
 use mathlib.Core.Path.{_≡_, refl, sym, ap, _∙_}
 use mathlib.Core.Bool.{Bool, true, false, _&&_, true≢false}
 use mathlib.Core.List.{List, [], _∷_, _++_}
@@ -11,10 +11,10 @@ use lib.ListN.{length, getD, length-append}
 use borrow.Author.Tests.{ltb-true}
 use Rattle.bitset.specs.Members.{member, setOf}
 use Rattle.bitset.proofs.SetOf.{member-setOf, member-setOf-above}
-use Rattle.substitutes.specs.Agreeing.{Agreeing}
-use Rattle.problem.specs.Problem.{SoundProblem, compareVertices, allowed, consistent}
-use Rattle.problem.specs.Lent.{Tables, tableAt, lent}
-use Rattle.problem.proofs.VertexSets.{agreeing-vertices, vertex-member, vertex-allowed}
+use Rattle.problem.specs.Problem.{SoundProblem, allowed, consistent}
+use Rattle.problem.specs.Lent.{Tables, lent}
+use Rattle.problem.specs.VertexSets.{Allowing}
+use Rattle.problem.proofs.VertexSets.{allowing-allowed}
 use Rattle.problem.proofs.Consistent.{allowed-facts}
 use Rattle.mapping.specs.Common.{unmapped}
 use Rattle.search_tree.specs.Rules.{Rules, rulesOf}
@@ -43,7 +43,11 @@ same-choices R Q minimum k path same (v ∷ cs) held =
     ∙ sym (choices-turns Q minimum path held k v cs)
 
 module _ (orders : List ℕ) (labels edges : Tables) (substitutes : List ℕ) {sets : List ℕ} (sound : SoundProblem (lent orders labels edges substitutes))
-    (agreed : Agreeing (tableAt labels 0) (tableAt labels 1) substitutes sets) where
+    (made : Allowing labels edges substitutes sets) where
+  -- a row's set is that of the vertices that it may lie on
+  set-member : (r v : ℕ) → r < getD orders 0 0 → member (getD sets r 0) v ≡ member (setOf 64 (allowed (lent orders labels edges substitutes) r)) v
+  set-member r v h = ap (λ (set : ℕ). member set v) (allowing-allowed orders labels edges substitutes sound made .word r h)
+
   -- What the search asks of what it is lent.
   pub lent-small : getD orders 0 0 ≤ 8 → Small orders sets edges
   lent-small few = record {
@@ -56,21 +60,19 @@ module _ (orders : List ℕ) (labels edges : Tables) (substitutes : List ℕ) {s
       new-vertex : (r v : ℕ) → r < getD orders 0 0 → member (getD sets r 0) v ≡ true → Dec (v < 64) → v < getD orders 1 0
       new-vertex r v row e d =
           let P = lent orders labels edges substitutes in
-          let m = sym (ap (λ (set : ℕ). member set v) (vertex-allowed P (agreeing-vertices P sound agreed) r row)) ∙ e in
-          allowed-facts P r v (inside (allowed P r) v d m) .0
+          allowed-facts P r v (inside (allowed P r) v d (sym (set-member r v row) ∙ e)) .0
 
   -- a row has the same candidates
   same-candidate : (path : List ℕ) (r v : ℕ) → r < getD orders 0 0
       → candidate (lentRules orders sets edges) path r v ≡ candidate (rulesOf (lent orders labels edges substitutes)) path r v
-  unfolding candidate allowed consistent
+  unfolding candidate consistent
   same-candidate path r v h = ap (λ (b : Bool). b && allBelow (length path) (fits (lentRules orders sets edges) path r v)) (go (ltb v (getD orders 1 0)) refl)
     where
       go : (b : Bool) → ltb v (getD orders 1 0) ≡ b
-          → (b && member (getD sets r 0) v) ≡ (b && (b && compareVertices (lent orders labels edges substitutes) r v))
+          → (b && member (getD sets r 0) v) ≡ (b && allowed (lent orders labels edges substitutes) r v)
       go true e =
-          let P = lent orders labels edges substitutes in
-          let below = ltb-true _ _ e in
-          vertex-member P (agreeing-vertices P sound agreed) r h v below (omega (arith, sound .new-sound .order-max))
+          set-member r v h
+          ∙ member-setOf 64 (allowed (lent orders labels edges substitutes) r) v (omega (arith, ltb-true v (getD orders 1 0) e, sound .new-sound .order-max))
       go false e = refl
 
   -- and so the same choices

@@ -1,5 +1,5 @@
 -- What the printed rules of 001 and 004 let through, computed on small problems: for each condition that is missing, a clique that is larger than every common
--- subgraph (01, "The walk": "001's printed rule lacks the second condition and 004 compares no kinds").
+-- subgraph (01, "The walk": "001's printed rule lacks the second condition and 004 compares no kinds"; 02, U4: "paired parts need equal own links").
 use mathlib.Core.Path.{_≡_, refl, sym, ap, ap₂, _∙_}
 use mathlib.Core.Logic.{_≢_}
 use mathlib.Core.Bool.{Bool, true, false, not, _&&_, true≢false, and-eq-true-iff}
@@ -16,12 +16,12 @@ use Rattle.bounded.proofs.AllBelow.{allBelow-true}
 use Rattle.graph_reader.specs.Reading.{reading, readFrom, judge}
 use Rattle.substitutes.specs.Substitutes.{listed, agree}
 use Rattle.substitutes.specs.Soundness.{substitutesAnswer}
-use Rattle.problem.specs.Problem.{Problem, SoundProblem, allowed, consistent}
-use Rattle.problem_reader.proofs.MarkedGraphs.{bytes, between, one, two, sevens, listing, between-sound, one-sound, sevens-sound, listing-sound}
+use Rattle.problem.specs.Problem.{Problem, SoundProblem, compareEdges, allowed, consistent}
+use Rattle.problem_reader.proofs.MarkedGraphs.{bytes, between, one, two, sevens, held, listing, between-sound, one-sound, sevens-sound, held-sound, listing-sound}
 use Rattle.mapping.specs.Common.{mappedFrom, size}
 use Rattle.search_tree.specs.Node.{candidate, candidates, choices}
 use Rattle.clique.specs.Branching.{keepLarger, branchRow, branch}
-use Rattle.clique.specs.Association.{Pair, pair, pairAt, Clique, Exceeds, inProduct, modularVertex, modularEdge, unlabelledEdge}
+use Rattle.clique.specs.Association.{Pair, pair, pairAt, apart, Clique, Exceeds, inProduct, modularVertex, modularEdge, unlabelledEdge}
 use Rattle.clique.proofs.Association.{branch-greatest}
 
 -- ---- a test of cliques
@@ -103,4 +103,14 @@ unfolding reading readFrom judge allBelow someBelow runBelow listed agree allowe
 unlabelled-edges = (
   exceeds (between (sevens 1) (sevens 2)) sevens-sound (pair 0 0 ∷ pair 1 1 ∷ []) refl (0 ∷ 255 ∷ []) refl (lit< tt),
   exceeds (between (sevens 1) (sevens 2)) sevens-sound (pair 0 0 ∷ pair 1 1 ∷ []) refl (0 ∷ 255 ∷ []) refl (lit< tt),
+)
+
+-- Both, a part of kind 7 linked with itself against one that is not: with no part shared and kinds compared the two are paired still.
+pub own-edges-differ : let P = between (held 1) one in
+    Exceeds P (modularVertex P) (λ p q. modularEdge P p q && apart p q) (pair 0 0 ∷ [])
+    × Exceeds P (modularVertex P) (λ p q. unlabelledEdge P p q && compareEdges P (p .old) (q .old) (p .new) (q .new)) (pair 0 0 ∷ [])
+unfolding reading readFrom judge allBelow someBelow runBelow listed agree allowed consistent mappedFrom candidate candidates choices keepLarger branchRow
+own-edges-differ = (
+  exceeds (between (held 1) one) held-sound (pair 0 0 ∷ []) refl (255 ∷ []) refl (lit< tt),
+  exceeds (between (held 1) one) held-sound (pair 0 0 ∷ []) refl (255 ∷ []) refl (lit< tt),
 )

@@ -24,6 +24,10 @@ pair v w = record { old = v; new = w }
 abbrev pub isVertex : Problem → Pair → Bool
 isVertex P p = ltb (p .old) (P .old .order) && allowed P (p .old) (p .new)
 
+-- "paired parts need equal own links" (02, U4)
+abbrev pub ownEdges : Problem → Pair → Bool
+ownEdges P p = compareEdges P (p .old) (p .old) (p .new) (p .new)
+
 -- "no part shared by two pairs"
 abbrev pub apart : Pair → Pair → Bool
 apart p q = not (eqb (p .old) (q .old)) && not (eqb (p .new) (q .new))

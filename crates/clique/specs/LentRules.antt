@@ -1,4 +1,5 @@
--- The rules of the search by what the code is lent: the orders, the sets of vertices whose labels agree, and the edges (02, U2, "each free pair that fits").
+-- The rules of the search by what the code is lent: the orders, the sets of vertices that an old one may lie on, and the edges (02, U2, "each free pair that
+-- fits").
 -- For a sound problem the search by them is the search by the problem's own rules.
 use mathlib.Core.Bool.{Bool, _&&_, _||_}
 use mathlib.Core.List.{List, [], _++_, _∷_}

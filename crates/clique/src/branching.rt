@@ -42,37 +42,28 @@ pub fn keep_larger(order: usize, path: [u8; MAX_OLD], pairs: usize, held: Incumb
 // The row at `depth`, or the path's end.
 pub fn branch_row<'a>(
     orders: Orders,
-    agreeing: &[u64; MAX_ORDER],
+    allowed: &[u64; MAX_ORDER],
     edges: Edges<'a>,
     path: [u8; MAX_OLD],
     depth: usize,
     pairs: usize,
     held: Incumbent,
 ) -> Incumbent
-    requires { ⌜ Small orders (now agreeing) edges × (depth ≤ getD orders 0 0) × Decided path depth pairs ⌝ }
-    ensures { λ r. ⌜ Becomes held (λ minimum. branchRow (lentRules orders (now (agreeing .entry)) (edges .entry)) minimum
+    requires { ⌜ Small orders (now allowed) edges × (depth ≤ getD orders 0 0) × Decided path depth pairs ⌝ }
+    ensures { λ r. ⌜ Becomes held (λ minimum. branchRow (lentRules orders (now (allowed .entry)) (edges .entry)) minimum
         (2 * (getD orders 0 0 - depth)) (take depth path)) r ⌝ }
 {
     if depth == orders[0] {
         return keep_larger(depth, path, pairs, held);
     }
-    let candidates = candidates::candidates(agreeing, edges, path, OldVertex(depth));
-    branch_choices(
-        orders,
-        agreeing,
-        edges,
-        path,
-        depth,
-        pairs,
-        candidates,
-        held,
-    )
+    let candidates = candidates::candidates(allowed, edges, path, OldVertex(depth));
+    branch_choices(orders, allowed, edges, path, depth, pairs, candidates, held)
 }
 
 // The choices of the row at `depth`: each of these candidates, rising, then none.
 pub fn branch_choices<'a>(
     orders: Orders,
-    agreeing: &[u64; MAX_ORDER],
+    allowed: &[u64; MAX_ORDER],
     edges: Edges<'a>,
     path: [u8; MAX_OLD],
     depth: usize,
@@ -80,21 +71,21 @@ pub fn branch_choices<'a>(
     candidates: u64,
     held: Incumbent,
 ) -> Incumbent
-    requires { ⌜ Small orders (now agreeing) edges × (depth < getD orders 0 0) × Decided path depth pairs ⌝ }
-    ensures { λ r. ⌜ Becomes held (λ minimum. branchChoices (lentRules orders (now (agreeing .entry)) (edges .entry)) minimum
+    requires { ⌜ Small orders (now allowed) edges × (depth < getD orders 0 0) × Decided path depth pairs ⌝ }
+    ensures { λ r. ⌜ Becomes held (λ minimum. branchChoices (lentRules orders (now (allowed .entry)) (edges .entry)) minimum
         (2 * (getD orders 0 0 - (depth + 1)) + 1) (take depth path) (choicesOf candidates)) r ⌝ }
 {
     let mut next = path;
     match bitset::least_member(candidates) {
         Least::Empty => {
             next[depth] = UNMAPPED;
-            branch_row(orders, agreeing, edges, next, depth + 1, pairs, held)
+            branch_row(orders, allowed, edges, next, depth + 1, pairs, held)
         }
         Least::Member(vertex) => {
             next[depth] = vertex as u8;
-            let better = branch_row(orders, agreeing, edges, next, depth + 1, pairs + 1, held);
+            let better = branch_row(orders, allowed, edges, next, depth + 1, pairs + 1, held);
             let rest = bitset::without_least(candidates);
-            branch_choices(orders, agreeing, edges, path, depth, pairs, rest, better)
+            branch_choices(orders, allowed, edges, path, depth, pairs, rest, better)
         }
     }
 }
@@ -102,17 +93,17 @@ pub fn branch_choices<'a>(
 // The whole search.
 pub fn branch<'a>(
     orders: Orders,
-    agreeing: &[u64; MAX_ORDER],
+    allowed: &[u64; MAX_ORDER],
     edges: Edges<'a>,
     minimum: u8,
 ) -> Incumbent
-    requires { ⌜ Small orders (now agreeing) edges ⌝ }
-    ensures { λ r. ⌜ r ≡ incumbentAs minimum (branchRow (lentRules orders (now (agreeing .entry)) (edges .entry)) minimum (2 * getD orders 0 0) [] none) ⌝ }
+    requires { ⌜ Small orders (now allowed) edges ⌝ }
+    ensures { λ r. ⌜ r ≡ incumbentAs minimum (branchRow (lentRules orders (now (allowed .entry)) (edges .entry)) minimum (2 * getD orders 0 0) [] none) ⌝ }
 {
     let held = Incumbent {
         cutoff: minimum as usize,
         holds: false,
         mapping: [0u8; MAX_OLD],
     };
-    branch_row(orders, agreeing, edges, [0u8; MAX_OLD], 0, 0, held)
+    branch_row(orders, allowed, edges, [0u8; MAX_OLD], 0, 0, held)
 }

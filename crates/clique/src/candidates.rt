@@ -78,18 +78,18 @@ pub fn edges_fit<'a>(
     true
 }
 
-// The candidates of the row: of the vertices whose labels agree with its own, those that are free and whose edges fit.
+// The candidates of the row: of the vertices that it may lie on, those that are free and whose edges fit.
 pub fn candidates<'a>(
-    agreeing: &[u64; MAX_ORDER],
+    allowed: &[u64; MAX_ORDER],
     edges: Edges<'a>,
     path: [u8; MAX_OLD],
     row: OldVertex,
 ) -> u64
     requires { ⌜ BothLong 4096 edges × (row .0 < 8) × EntriesBelow path (row .0) ⌝ }
-    ensures { λ r. ⌜ r ≡ setOf 64 (lentCandidate (now (agreeing .entry)) (edges .entry) path (row .0)) ⌝ }
+    ensures { λ r. ⌜ r ≡ setOf 64 (lentCandidate (now (allowed .entry)) (edges .entry) path (row .0)) ⌝ }
 {
     let r = row.0;
-    let mut rest = bitset::difference(agreeing[r], taken(path, r));
+    let mut rest = bitset::difference(allowed[r], taken(path, r));
     let mut fitting = 0;
     loop {
         match bitset::least_member(rest) {

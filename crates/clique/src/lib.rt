@@ -88,8 +88,8 @@ pub fn branch<'a>(
                     mapping: [0u8; MAX_OLD],
                 };
             }
-            let agreeing = substitutes::agreeing(labels[0], labels[1], substitutes);
-            answered(branching::branch(orders, &agreeing, edges, minimum))
+            let allowed = problem::allowed_sets(labels, edges, substitutes);
+            answered(branching::branch(orders, &allowed, edges, minimum))
         }
     }
 }

@@ -1,5 +1,5 @@
-// Runs `clique::branch` on small cases and writes what each says. The expected output was worked out by hand from document 02, U2, and from
-// document 01, "Good partner lists", "The walk" and "Refusals by place of checking".
+// Runs `clique::branch` on small cases and writes what each says. The expected output was worked out by hand from document 02, U2 and U4, and
+// from document 01, "Good partner lists", "The walk" and "Refusals by place of checking".
 
 mod lines;
 
@@ -123,6 +123,37 @@ fn links() {
     );
 }
 
+// A part of kind 7 with a link to itself, and one without.
+fn on_own_and_none(name: &[u8], minimum: u8) {
+    case(
+        name,
+        b"\x01\x07\x02\x00\x00\x01\x00",
+        b"\x01\x07\x00",
+        b"",
+        minimum,
+    );
+}
+
+fn own_links() {
+    on_own_and_none(b"own link against none, floor 0", 0);
+    on_own_and_none(b"own link against none, floor 1", 1);
+    // the link of the two old parts is the new part's own
+    case(
+        b"one new part serves once",
+        b"\x01\x07\x01\x07\x02\x00\x00\x05\x02\x01\x01\x05\x02\x00\x01\x05\x00",
+        b"\x01\x07\x02\x00\x00\x05\x00",
+        b"",
+        0,
+    );
+    case(
+        b"own link of the first against own link of the second",
+        b"\x01\x07\x01\x07\x02\x00\x00\x01\x00",
+        b"\x01\x07\x01\x07\x02\x01\x01\x01\x00",
+        b"",
+        0,
+    );
+}
+
 // One part of kind 7, and one of kind 9.
 fn on_seven_and_nine(name: &[u8], substitutes: &[u8], minimum: u8) {
     case(name, b"\x01\x07\x00", b"\x01\x09\x00", substitutes, minimum);
@@ -172,7 +203,7 @@ fn eight_old() {
     );
 }
 
-// Nine old parts of kind 7 against none, with this kind of a part 63 and this link of it with itself: both are 0 in a sound chart.
+// Nine old parts of kind 7 against none, with this kind of a part 63 and this link of it with itself: both are 0 in a sound chart of nine.
 fn on_nine(name: &[u8], order: usize, label: u8, edge: u8, substitutes: &[u8]) {
     let mut old_labels = [0u8; 64];
     let mut old_edges = [0u8; 4096];
@@ -217,6 +248,7 @@ fn main() {
     first_held();
     larger_later();
     links();
+    own_links();
     substitutes();
     eight_old();
     nine_old();

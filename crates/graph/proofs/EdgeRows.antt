@@ -25,12 +25,11 @@ sound-rows n edges most e = (row, unused)
     null : (i : ℕ) → i < 4096 → n ≤ max (i / 64) (i % 64) → getD edges i 0 ≡ 0
     null i h out =
         let at = vertices-of i h in
-        rw (at .0) at (fact (i / 64) (i % 64) (at .1) (at .2) .3 out)
+        rw (at .0) at (fact (i / 64) (i % 64) (at .1) (at .2) .2 out)
 
     row : (a : ℕ) → a < n → VertexRow n edges a
     row a h = (
       λ b from below. fact a b (omega arith) (omega arith) .1,
-      fact a a (omega arith) (omega arith) .2 refl,
       λ i from to. null i (omega arith) (omega arith),
     )
 
@@ -41,20 +40,13 @@ sound-rows n edges most e = (row, unused)
 rows-sound : (n : ℕ) (edges : List ℕ) → ((i : ℕ) → getD edges i 0 ≤ 255) → TableRows n edges → edgesSound n edges ≡ true
 unfolding Between
 rows-sound n edges byte rows =
-    facts-edges n edges (λ a b ha hb. (byte (place a b), same a b ha hb, itself a b ha hb, null a b ha hb))
+    facts-edges n edges (λ a b ha hb. (byte (place a b), same a b ha hb, null a b ha hb))
   where
     null : (a b : ℕ) → a < 64 → b < 64 → n ≤ max a b → getD edges (place a b) 0 ≡ 0
     null a b ha hb out =
         elim (decLt a n) [
-          | yes h ↦ rows .0 a h .2 (place a b) (omega arith) (omega arith)
+          | yes h ↦ rows .0 a h .1 (place a b) (omega arith) (omega arith)
           | no h ↦ rows .1 (place a b) (omega arith) (omega arith)
-        ]
-
-    itself : (a b : ℕ) → a < 64 → b < 64 → a ≡ b → getD edges (place a b) 0 ≡ 0
-    itself a b ha hb q =
-        elim (decLt a n) [
-          | yes h ↦ rw (← q) (rows .0 a h .1)
-          | no h ↦ null a b ha hb (omega arith)
         ]
 
     ordered : (a b : ℕ) → a < 64 → b < a → getD edges (place a b) 0 ≡ getD edges (place b a) 0

@@ -1,12 +1,12 @@
 -- The tests of soundness pass exactly on sound graphs.
 use mathlib.Core.Path.{_≡_, refl}
-use mathlib.Core.Bool.{Bool, true, false, cond, or-true, or-false, and-eq-true-iff}
+use mathlib.Core.Bool.{Bool, true, false, cond, or-false, and-eq-true-iff}
 use mathlib.Core.List.{List}
 use Prim.Native.Nat.{ℕ, _≤_, _<_, max}
 use native.Mathlib.Omega.{arith}
 use lib.Dec.{ltb, eqb}
 use lib.ListN.{length, getD}
-use borrow.Author.Tests.{ltb-true, ltb-false, leb-true, eqb-true, eqb-false, lt-ltb, le-ltb, le-leb, lt-leb, eq-eqb, ne-eqb}
+use borrow.Author.Tests.{ltb-true, ltb-false, leb-true, eqb-true, eqb-false, lt-ltb, le-ltb, le-leb, lt-leb, eq-eqb}
 use Rattle.bounded.proofs.AllBelow.{allBelow-true, true-allBelow}
 use Rattle.answers.specs.Answer.{passed, refused}
 use Rattle.graph.specs.Graph.{Graph, Sound, place}
@@ -41,7 +41,6 @@ abbrev pub EdgeFacts : ℕ → List ℕ → ℕ → ℕ → Type 0
 EdgeFacts n edges a b =
     (getD edges (place a b) 0 ≤ 255)
     × (getD edges (place a b) 0 ≡ getD edges (place b a) 0)
-    × (a ≡ b → getD edges (place a b) 0 ≡ 0)
     × (n ≤ max a b → getD edges (place a b) 0 ≡ 0)
 
 edge-passes : (n : ℕ) (edges : List ℕ) (a b : ℕ) → EdgeFacts n edges a b → edgeSound n edges a b ≡ true
@@ -53,18 +52,16 @@ edge-passes n edges a b f = go (eqb x 0) refl
     go : (t : Bool) → eqb x 0 ≡ t → edgeSound n edges a b ≡ true
     go true e = simp (le-leb x 255 (f .0), eq-eqb x (getD edges (place b a) 0) (f .1), e)
     go false e =
-        let within : ¬ (n ≤ max a b) = λ h. eqb-false x 0 e (f .3 h) in
+        let within : ¬ (n ≤ max a b) = λ h. eqb-false x 0 e (f .2 h) in
         let low : max a b < n = omega arith in
-        let apart : eqb a b ≡ false = ne-eqb a b (λ q. eqb-false x 0 e (f .2 q)) in
-        simp (le-leb x 255 (f .0), eq-eqb x (getD edges (place b a) 0) (f .1), e, apart, lt-leb n (max a b) low)
+        simp (le-leb x 255 (f .0), eq-eqb x (getD edges (place b a) 0) (f .1), e, lt-leb n (max a b) low)
 
 edge-facts : (n : ℕ) (edges : List ℕ) (a b : ℕ) → edgeSound n edges a b ≡ true → EdgeFacts n edges a b
 edge-facts n edges a b e =
     let t = simp and-eq-true-iff at e in (
       leb-true x 255 (t .0 .0),
       eqb-true x (getD edges (place b a) 0) (t .0 .1),
-      λ q. eqb-true x 0 (simp (eq-eqb a b q, or-false) at (t .1)),
-      λ h. eqb-true x 0 (simp (le-leb n (max a b) h, or-true, or-false) at (t .1)),
+      λ h. eqb-true x 0 (simp (le-leb n (max a b) h, or-false) at (t .1)),
     )
   where
     x : ℕ
@@ -103,7 +100,7 @@ sound-passes g s =
       le-leb (g .order) 64 (s .order-max),
       labels-pass g s,
       facts-edges (g .order) (g .edges)
-          (λ a b ha hb. (s .edge-byte a b ha hb, s .symmetric a b ha hb, λ q. rw (← q) (s .irreflexive a ha), s .within a b ha hb)),
+          (λ a b ha hb. (s .edge-byte a b ha hb, s .symmetric a b ha hb, s .within a b ha hb)),
     )
 
 refused-not-passed : (number : ℕ) → refused number ≡ passed → ⊥
@@ -135,6 +132,5 @@ passes-sound g e =
       unlabelled = λ v o h. each v h .1 o;
       edge-byte = λ a b ha hb. pair a b ha hb .0;
       symmetric = λ a b ha hb. pair a b ha hb .1;
-      irreflexive = λ a ha. pair a a ha ha .2 refl;
-      within = λ a b ha hb. pair a b ha hb .3;
+      within = λ a b ha hb. pair a b ha hb .2;
     }

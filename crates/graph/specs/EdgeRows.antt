@@ -1,5 +1,5 @@
--- The parts of a sound edge table that are tested one by one: in the row of a vertex the edges with earlier vertices, that with itself, and the
--- bytes of numbers n or above (01, "Charts": "links are the same both ways, a part with itself has 0, and links of numbers n or above are 0"; 02, U3).
+-- The parts of a sound edge table that are tested one by one: in the row of a vertex the edges with earlier vertices and the bytes of numbers n or above
+-- (01, "Charts": "links are the same both ways, .. and links of numbers n or above are 0"; 02, U3 and U4).
 use mathlib.Core.Path.{_≡_}
 use mathlib.Core.List.{List, [], _∷_}
 use Prim.Native.Nat.{ℕ, _+_, _*_, _≤_, _<_}
@@ -20,8 +20,7 @@ Same edges a b = getD edges (place a b) 0 ≡ getD edges (place b a) 0
 
 -- what is asked of the row of a vertex
 abbrev pub VertexRow : ℕ → List ℕ → ℕ → Type 0
-VertexRow order edges a =
-    Between (Same edges a) 0 a × Null edges (place a a) × Between (Null edges) (place a order) (place a 64)
+VertexRow order edges a = Between (Same edges a) 0 a × Between (Null edges) (place a order) (place a 64)
 
 -- what is asked of the whole table
 abbrev pub TableRows : ℕ → List ℕ → Type 0

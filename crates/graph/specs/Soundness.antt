@@ -20,12 +20,12 @@ labelSound order labels v =
 unfoldable pub labelsSound : ℕ → List ℕ → Bool
 labelsSound order labels = allBelow 64 (labelSound order labels)
 
--- 12: "links are the same both ways, a part with itself has 0, and links of numbers n or above are 0"
+-- 12: "links are the same both ways, .. and links of numbers n or above are 0"; since 02, U4, "12 allows the diagonal"
 abbrev pub edgeSound : ℕ → List ℕ → ℕ → ℕ → Bool
 edgeSound order edges a b =
     leb (getD edges (place a b) 0) 255
     && eqb (getD edges (place a b) 0) (getD edges (place b a) 0)
-    && (eqb (getD edges (place a b) 0) 0 || not (eqb a b || leb order (max a b)))
+    && (eqb (getD edges (place a b) 0) 0 || not (leb order (max a b)))
 
 unfoldable pub rowSound : ℕ → List ℕ → ℕ → Bool
 rowSound order edges a = allBelow 64 (edgeSound order edges a)

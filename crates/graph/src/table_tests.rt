@@ -46,9 +46,6 @@ fn row_sound(order: usize, edges: &[u8], a: usize) -> bool
     if !same_edges::same_before(edges, a) {
         return false;
     }
-    if edges[MAX_ORDER * a + a] != 0 {
-        return false;
-    }
     null_edges::columns_null(order, edges, a)
 }
 

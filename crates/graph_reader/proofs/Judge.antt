@@ -24,7 +24,7 @@ after-order g (Vertex label) h =
     either (Within g) (eqb label 0) h (cond-cases (Within g) (leb 64 (g .order)) (λ e. h) (λ e. omega (arith, leb-false 64 (g .order) e)))
 after-order g (Edge a b label) h =
     either (Within g) (leb (g .order) (max a b)) h
-    (either (Within g) (eqb a b) h (either (Within g) (eqb label 0) h (either (Within g) (eqb (edge g a b) 0) h h)))
+    (either (Within g) (eqb label 0) h (either (Within g) (eqb (edge g a b) 0) h h))
 after-order g End h = h
 after-order g Truncated h = h
 after-order g Unknown h = h

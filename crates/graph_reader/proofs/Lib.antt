@@ -1,3 +1,4 @@
+pub mod Examples
 pub mod Fuel
 pub mod Judge
 pub mod MadeReader

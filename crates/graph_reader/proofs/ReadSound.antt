@@ -1,5 +1,5 @@
 -- Whatever reading accepts is a sound graph, and a refused reading leaves both tables all 0.
-use mathlib.Core.Path.{_≡_, refl, sym, _∙_, subst}
+use mathlib.Core.Path.{_≡_, refl, sym, ap, _∙_, subst}
 use mathlib.Core.Bool.{_&&_}
 use mathlib.Core.Logic.{_≢_, _⊎_, inl, inr, ⊎-elim}
 use mathlib.Core.List.{List}
@@ -34,7 +34,6 @@ empty-sound =
       unlabelled = λ v o h. getD-replicate 64 v 0 0 h;
       edge-byte = λ a b ha hb. omega (arith, null a b ha hb);
       symmetric = λ a b ha hb. null a b ha hb ∙ sym (null b a hb ha);
-      irreflexive = λ a ha. null a a ha ha;
       within = λ a b ha hb o. null a b ha hb;
     }
   where
@@ -54,7 +53,6 @@ withVertex-sound g x s room low high =
       unlabelled = λ v o h. old v (omega arith) ∙ s .unlabelled v (omega arith) h;
       edge-byte = s .edge-byte;
       symmetric = s .symmetric;
-      irreflexive = s .irreflexive;
       within = λ a b ha hb o. s .within a b ha hb (omega arith);
     }
   where
@@ -65,29 +63,32 @@ withVertex-sound g x s room low high =
     old v h = getD-set-other (g .labels) (g .order) v x 0 h
 
 -- c and d are a and b, either first
-abbrev Pair : ℕ → ℕ → ℕ → ℕ → Type 0
+abbrev pub Pair : ℕ → ℕ → ℕ → ℕ → Type 0
 Pair a b c d = ((c ≡ a) × (d ≡ b)) ⊎ ((c ≡ b) × (d ≡ a))
 
 Pair-swap : {a b c d : ℕ} → Pair a b c d → Pair a b d c
 Pair-swap (inl e) = inr (e .1, e .0)
 Pair-swap (inr e) = inl (e .1, e .0)
 
-module _ (g : Graph) (a b x : ℕ) (s : Sound g) (ha : a < g .order) (hb : b < g .order) (apart : a ≢ b) (high : x ≤ 255) where
-  new-edge : (c d : ℕ) → Pair a b c d → edge (withEdge g a b x) c d ≡ x
-  new-edge c d (inl e) =
-      rw (e .0, e .1)
-      (getD-set-other (set (g .edges) (place a b) x) (place b a) (place a b) x 0
-      (λ q. apart (place-injective a b b a (omega arith) (omega arith) q .0))
-      ∙ getD-set-same (g .edges) (place a b) x 0 (omega arith))
-  new-edge c d (inr e) =
-      rw (e .0, e .1) (getD-set-same (set (g .edges) (place a b) x) (place b a) x 0 (lt-length-set (g .edges) (place a b) x (omega arith)))
+module _ (g : Graph) (a b x : ℕ) (s : Sound g) (ha : a < g .order) (hb : b < g .order) where
+  pub new-edge : (c d : ℕ) → Pair a b c d → edge (withEdge g a b x) c d ≡ x
+  new-edge c d p = ⊎-elim (λ e. rw (e .0, e .1) (first (ℕ-discrete (place a b) (place b a)))) (λ e. rw (e .0, e .1) second) p
+    where
+      second : edge (withEdge g a b x) b a ≡ x
+      second = getD-set-same (set (g .edges) (place a b) x) (place b a) x 0 (lt-length-set (g .edges) (place a b) x (omega arith))
+
+      -- a vertex's edge with itself has one place, which is set twice
+      first : Dec (place a b ≡ place b a) → edge (withEdge g a b x) a b ≡ x
+      first (yes q) = ap (λ (i : ℕ). getD (withEdge g a b x .edges) i 0) q ∙ second
+      first (no q) =
+          getD-set-other (set (g .edges) (place a b) x) (place b a) (place a b) x 0 q ∙ getD-set-same (g .edges) (place a b) x 0 (omega arith)
 
   old-edge : (i : ℕ) → i ≢ place a b → i ≢ place b a → getD (withEdge g a b x .edges) i 0 ≡ getD (g .edges) i 0
   old-edge i p q =
       getD-set-other (set (g .edges) (place a b) x) (place b a) i x 0 q ∙ getD-set-other (g .edges) (place a b) i x 0 p
 
   -- an edge is the new one, or stays as it was, both ways
-  new-or-old : (c d : ℕ) → c < 64 → d < 64
+  pub new-or-old : (c d : ℕ) → c < 64 → d < 64
       → Pair a b c d ⊎ ((edge (withEdge g a b x) c d ≡ edge g c d) × (edge (withEdge g a b x) d c ≡ edge g d c))
   new-or-old c d hc hd = go (ℕ-discrete (place c d) (place a b)) (ℕ-discrete (place c d) (place b a))
     where
@@ -104,8 +105,8 @@ module _ (g : Graph) (a b x : ℕ) (s : Sound g) (ha : a < g .order) (hb : b < g
           )
 
   -- An edge with a label up to 255 between two vertices keeps a graph sound.
-  pub withEdge-sound : Sound (withEdge g a b x)
-  withEdge-sound =
+  pub withEdge-sound : x ≤ 255 → Sound (withEdge g a b x)
+  withEdge-sound high =
       record {
         labels-length = s .labels-length;
         edges-length = simp length-set (s .edges-length);
@@ -117,10 +118,6 @@ module _ (g : Graph) (a b x : ℕ) (s : Sound g) (ha : a < g .order) (hb : b < g
             (λ p. new-edge c d p ∙ sym (new-edge d c (Pair-swap p)))
             (λ o. o .0 ∙ s .symmetric c d hc hd ∙ sym (o .1))
             (new-or-old c d hc hd);
-        irreflexive = λ c hc. ⊎-elim
-            (⊎-elim (λ e. absurd (apart (omega arith))) (λ e. absurd (apart (omega arith))))
-            (λ o. o .0 ∙ s .irreflexive c hc)
-            (new-or-old c c hc hc);
         within = λ c d hc hd out. ⊎-elim
             (⊎-elim (λ e. absurd (omega arith)) (λ e. absurd (omega arith)))
             (λ o. o .0 ∙ s .within c d hc hd out)
@@ -165,12 +162,11 @@ verdict-sound g (Vertex x) s byte =
     (λ room. let nonzero = eqb-false x 0 label in withVertex-sound g x s (leb-false 64 (g .order) room) (omega arith) byte))
 verdict-sound g (Edge a b x) s byte =
     cond-cases GrowsSound (leb (g .order) (max a b)) (λ e. tt)
-    (λ given. cond-cases GrowsSound (eqb a b) (λ e. tt)
-    (λ apart. cond-cases GrowsSound (eqb x 0) (λ e. tt)
+    (λ given. cond-cases GrowsSound (eqb x 0) (λ e. tt)
     (λ label. cond-cases GrowsSound (eqb (edge g a b) 0)
     (λ e. let both = leb-false (g .order) (max a b) given in
-    withEdge-sound g a b x s (omega arith) (omega arith) (eqb-false a b apart) byte)
-    (λ e. tt))))
+    withEdge-sound g a b x s (omega arith) (omega arith) byte)
+    (λ e. tt)))
 
 -- A command that stands keeps a graph sound.
 pub judge-sound : (g : Graph) (c : Command) → Sound g → LabelByte c → (g′ : Graph) → judge g c ≡ grows g′ → Sound g′

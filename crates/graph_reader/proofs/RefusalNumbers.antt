@@ -1,11 +1,13 @@
 -- Graph bytes that are read give an order, or are refused by one of 01's numbers.
 use mathlib.Core.Path.{subst}
+use mathlib.Core.Logic.{_≢_}
 use mathlib.Core.Bool.{_&&_}
 use mathlib.Core.List.{List}
 use Prim.Native.Nat.{ℕ, zero, suc, _+_, max}
 use native.Mathlib.Omega.{arith}
 use lib.Dec.{leb, eqb}
 use lib.ListN.{length, drop}
+use Rattle.answers.specs.Answer.{Answer, accepted, refused, refusedAt, refusalNumber}
 use Rattle.answers.proofs.Choice.{either}
 use Rattle.answers.proofs.RefusalNumbers.{RefusalNumber, Valued}
 use Rattle.graph.specs.Graph.{Graph, edge, emptyGraph}
@@ -28,8 +30,7 @@ judge-number g (Vertex x) =
     either FaultNumber (eqb x 0) (omega arith) (either FaultNumber (leb 64 (g .order)) (omega arith) tt)
 judge-number g (Edge a b x) =
     either FaultNumber (leb (g .order) (max a b)) (omega arith)
-    (either FaultNumber (eqb a b) (omega arith)
-    (either FaultNumber (eqb x 0) (omega arith) (either FaultNumber (eqb (edge g a b) 0) tt (omega arith))))
+    (either FaultNumber (eqb x 0) (omega arith) (either FaultNumber (eqb (edge g a b) 0) tt (omega arith)))
 judge-number g End = tt
 
 abbrev ReadValued : Reading → Type 0
@@ -50,3 +51,12 @@ unfolding reading
 reading-valued labels edges bytes =
     either ReadValued (eqb (length labels) 64 && eqb (length edges) 4096)
     (readFrom-valued (length bytes + 1) emptyGraph 0 bytes) (omega arith)
+
+-- "Number 6 never occurs now" (02, U4).
+pub never-6 : (labels edges bytes : List ℕ) → refusalNumber (reading labels edges bytes .answer) ≢ 6
+never-6 labels edges bytes = go (reading labels edges bytes .answer) (reading-valued labels edges bytes)
+  where
+    go : (a : Answer) → Valued a → refusalNumber a ≢ 6
+    go (accepted n) v e = omega (arith, e)
+    go (refused number) v e = omega (arith, v .3, e)
+    go (refusedAt number at) v e = omega (arith, v .3, e)

@@ -6,13 +6,13 @@ use Rattle.graph_reader.specs.declared.Fault.the-variants as fault
 use Rattle.graph_reader.specs.declared.ReadAnswer.{ReadAnswer}
 use Rattle.graph_reader.specs.declared.ReadAnswer.the-variants as read
 
+-- since 02, U4, "Number 6 never occurs now"
 abbrev pub faultNumber : Fault → ℕ
 faultNumber fault.Truncated = 1
 faultNumber fault.UnknownCommand = 2
 faultNumber fault.ZeroLabel = 3
 faultNumber fault.TooManyVertices = 4
 faultNumber fault.MissingVertex = 5
-faultNumber fault.SelfEdge = 6
 faultNumber fault.NullEdge = 7
 faultNumber fault.RepeatedEdge = 8
 faultNumber fault.TrailingBytes = 9

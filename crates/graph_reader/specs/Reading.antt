@@ -30,16 +30,14 @@ pub data Verdict : Type 0 where
   -- 01's number
   faulty : ℕ → Verdict
 
--- 1, 2; "3 kind 0; 4 a 65th"; "5 part not yet given; 6 a part with itself; 7 kind 0; 8 pair linked already"
+-- 1, 2; "3 kind 0; 4 a 65th"; "5 part not yet given; .. 7 kind 0; 8 pair linked already"; since 02, U4, "Number 6 never occurs now"
 unfoldable pub judge : Graph → Command → Verdict
 judge g Truncated = faulty 1
 judge g Unknown = faulty 2
 judge g (Vertex label) = cond (eqb label 0) (faulty 3) (cond (leb 64 (g .order)) (faulty 4) (grows (withVertex g label)))
 judge g (Edge a b label) =
     cond (leb (g .order) (max a b)) (faulty 5)
-    (cond (eqb a b) (faulty 6)
-    (cond (eqb label 0) (faulty 7)
-    (cond (eqb (edge g a b) 0) (grows (withEdge g a b label)) (faulty 8))))
+    (cond (eqb label 0) (faulty 7) (cond (eqb (edge g a b) 0) (grows (withEdge g a b label)) (faulty 8)))
 judge g End = ends
 
 -- the graph after a command: unchanged unless the command stands

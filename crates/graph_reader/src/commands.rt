@@ -80,7 +80,7 @@ pub fn add_vertex(label: Label, order: usize, labels: &mut [Label]) -> Step
     Step::Grown(order + 1)
 }
 
-// An edge between two vertices, entered both ways.
+// An edge between two vertices, which may be one and the same, entered both ways.
 pub fn add_edge(a: u8, b: u8, edge_label: u8, order: usize, edges: &mut [u8]) -> Step
     requires { ⌜ (length (now edges) ≡ 4096) × (order ≤ 64) ⌝ }
     ensures { λ r. ⌜ ((labels : List ℕ) → Applied (graph order labels (now (edges .entry))) (Command.Edge a b «edge_label») r labels (now (edges .exit))) ⌝ }
@@ -92,9 +92,6 @@ pub fn add_edge(a: u8, b: u8, edge_label: u8, order: usize, edges: &mut [u8]) ->
     }
     if order <= to {
         return Step::Faulty(Fault::MissingVertex);
-    }
-    if from == to {
-        return Step::Faulty(Fault::SelfEdge);
     }
     if edge_label == 0 {
         return Step::Faulty(Fault::NullEdge);

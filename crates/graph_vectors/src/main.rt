@@ -1,4 +1,4 @@
-// Runs the reader, the writer and the soundness test on vectors derived by hand from document 01, and prints what they answer.
+// Runs the reader, the writer and the soundness test on vectors derived by hand from documents 01 and 02, and prints what they answer.
 
 use graph::Flaw;
 use graph::Soundness;
@@ -46,10 +46,23 @@ fn used(table: &[u8]) -> usize
     count
 }
 
+fn say_byte(byte: u8) {
+    say(b" ");
+    say_number(byte as usize);
+}
+
+fn say_bytes(bytes: &[u8]) {
+    let mut i = 0;
+    while i < bytes.len() {
+        say_byte(bytes[i]);
+        i += 1;
+    }
+}
+
 // Reads into tables that hold 9 everywhere. Prints the order, the edge entries and the bytes that the writer gives back; or the number, the
 // place, and how many bytes of each table are left that are not 0.
 fn read_into(name: &[u8], bytes: &[u8], labels: &mut [u8], edges: &mut [u8]) {
-    let mut out = [0u8; 8193];
+    let mut out = [0u8; 8449];
     say(name);
     let answer = graph_reader::read_graph(bytes, labels, edges);
     match answer {
@@ -149,6 +162,14 @@ fn small_vectors() {
         b"edge given higher number first",
         b"\x01\x09\x01\x07\x02\x01\x00\x01\x00",
     );
+    read(
+        b"edge of a vertex with itself",
+        b"\x01\x07\x02\x00\x00\x01\x00",
+    );
+    read(
+        b"every edge of two vertices, the last first",
+        b"\x01\x07\x01\x09\x02\x01\x01\x05\x02\x01\x00\x04\x02\x00\x00\x03\x00",
+    );
     read(b"vertex without label", b"\x01");
     read(b"second vertex without label", b"\x01\x07\x01");
     read(b"edge without operands", b"\x01\x07\x01\x07\x02");
@@ -176,8 +197,8 @@ fn faulty_vectors() {
         b"\x01\x07\x02\x01\x01\x01\x00",
     );
     read(
-        b"edge of a vertex with itself",
-        b"\x01\x07\x02\x00\x00\x01\x00",
+        b"null edge of a missing vertex with itself",
+        b"\x01\x07\x02\x01\x01\x00\x00",
     );
     read(
         b"null edge of a vertex with itself",
@@ -196,6 +217,14 @@ fn faulty_vectors() {
         b"edge repeated with label 0",
         b"\x01\x07\x01\x07\x02\x00\x01\x01\x02\x01\x00\x00\x00",
     );
+    read(
+        b"edge of a vertex with itself repeated",
+        b"\x01\x07\x02\x00\x00\x01\x02\x00\x00\x01\x00",
+    );
+    read(
+        b"edge of a vertex with itself repeated with label 0",
+        b"\x01\x07\x02\x00\x00\x01\x02\x00\x00\x00\x00",
+    );
     read(b"a byte after the end", b"\x00\x00");
     read(b"bytes after the end", b"\x01\x07\x00\x05\x06");
     read(b"two faults, the first counts", b"\x01\x00\x03");
@@ -211,7 +240,7 @@ fn many_vertices() {
     read(b"a 65th vertex without label", &more[..129]);
 }
 
-// Every edge between 64 vertices, with label 5.
+// Every edge between two of 64 vertices, with label 5.
 fn every_edge() -> [u8; 4096]
     ensures { λ r. ⌜ 4096 ≡ length r ⌝ }
 {
@@ -240,6 +269,45 @@ fn complete_graph() {
         &edges,
         &mut short,
     );
+}
+
+fn complete_graph_with_own_edges() {
+    let labels = [255u8; 64];
+    let edges = [5u8; 4096];
+    let mut out = [0u8; 8449];
+    write_into(
+        b"complete graph with own edges",
+        64,
+        &labels,
+        &edges,
+        &mut out,
+    );
+    read(b"complete graph with own edges", &out);
+    let mut short = [3u8; 8448];
+    write_into(
+        b"complete graph with own edges, one byte short",
+        64,
+        &labels,
+        &edges,
+        &mut short,
+    );
+}
+
+// The edges 0-0, 0-1 and 1-1 have the labels 3, 4 and 5.
+fn written_order() {
+    let mut labels = [0u8; 64];
+    let mut edges = [0u8; 4096];
+    labels[0] = 7;
+    labels[1] = 9;
+    edges[0] = 3;
+    edges[1] = 4;
+    edges[64] = 4;
+    edges[65] = 5;
+    let mut out = [9u8; 17];
+    write_into(b"every edge of two vertices", 2, &labels, &edges, &mut out);
+    say(b"their bytes:");
+    say_bytes(&out);
+    say(b"\n");
 }
 
 fn read_into_63() {
@@ -299,6 +367,26 @@ fn unsound_tables() {
     check(b"labels and edges unsound", 2, &labels, &edges);
 }
 
+fn own_edge_tables() {
+    let mut labels = [0u8; 64];
+    let mut edges = [0u8; 4096];
+    edges[0] = 5;
+    check(b"own edge in the empty graph", 0, &labels, &edges);
+    labels[0] = 7;
+    check(b"own edge below the order", 1, &labels, &edges);
+    edges[65] = 5;
+    check(
+        b"own edge of the number that is the order",
+        1,
+        &labels,
+        &edges,
+    );
+    labels[1] = 7;
+    check(b"own edges below the order", 2, &labels, &edges);
+    edges[4095] = 5;
+    check(b"own edge of the last number", 2, &labels, &edges);
+}
+
 fn is_sound(order: usize, labels: &[u8], edges: &[u8]) -> bool {
     match graph::check_graph(order, labels, edges) {
         Soundness::Sound => true,
@@ -345,7 +433,7 @@ fn sound_tables(order: usize, both_ways: bool) -> usize
     count
 }
 
-// One byte is never an edge; of all places n * (n - 1) are those of an edge of n vertices.
+// One byte is the edge of a vertex with itself, at n places; of all places n * n are those of an edge of n vertices.
 fn count_tables(order: usize)
     requires { ⌜ order ≤ 64 ⌝ }
 {
@@ -392,12 +480,15 @@ fn main() {
     faulty_vectors();
     many_vertices();
     complete_graph();
+    complete_graph_with_own_edges();
+    written_order();
     read_into_63();
     read_into_65();
     read_into_4095();
     read_into_4097();
     ill_sized_tables();
     unsound_tables();
+    own_edge_tables();
     count_tables(0);
     count_tables(1);
     count_tables(7);

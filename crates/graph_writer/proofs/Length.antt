@@ -1,13 +1,13 @@
--- How many bytes a graph is written in: 2n + 4 × links + 1, at most 8,193 for up to 64 vertices.
+-- How many bytes a graph is written in: 2n + 4 × links + 1, at most 8,449 for up to 64 vertices.
 use mathlib.Core.Path.{_≡_, refl, _∙_}
 use mathlib.Core.Bool.{Bool, true, false, cond, not}
 use mathlib.Core.List.{[], _∷_}
-use Prim.Native.Nat.{ℕ, suc, _+_, _*_, _-_, _≤_}
+use Prim.Native.Nat.{ℕ, _+_, _*_, _-_, _≤_}
 use native.Mathlib.Omega.{arith}
 use lib.Dec.{eqb}
 use lib.ListN.{length, length-append}
 use Rattle.bounded.specs.Below.{sumBelow, runBelow}
-use Rattle.bounded.proofs.Below.{length-runBelow, sumBelow-le, sumBelow-more, sumBelow-same, sumBelow-mul, count-above}
+use Rattle.bounded.proofs.Below.{length-runBelow, sumBelow-le, sumBelow-more, sumBelow-same, sumBelow-mul, count-from}
 use Rattle.graph.specs.Graph.{Graph, edge}
 use Rattle.graph_writer.specs.Writing.{vertexBytes, listed, edgeBytes, rowBytes, graphBytes, rowEdgeCount, edgeCount}
 
@@ -38,19 +38,19 @@ pub length-graphBytes : (g : Graph) → length (graphBytes g) ≡ 2 * g .order +
 unfolding graphBytes
 length-graphBytes g = simp (length-append, length-vertices, length-rows)
 
--- Row a has at most as many edges as there are vertices after a.
-pub rowEdgeCount-max : (g : Graph) (a : ℕ) → rowEdgeCount g a ≤ g .order - suc a
-rowEdgeCount-max g a = count-above (g .order) a (λ b. not (eqb (edge g a b) 0))
+-- Row a has at most as many edges as there are vertices from a on.
+pub rowEdgeCount-max : (g : Graph) (a : ℕ) → rowEdgeCount g a ≤ g .order - a
+rowEdgeCount-max g a = count-from (g .order) a (λ b. not (eqb (edge g a b) 0))
 
--- Up to 64 vertices have at most 2,016 links, one for each pair a < b.
-pub edgeCount-max : (g : Graph) → g .order ≤ 64 → edgeCount g ≤ 2016
+-- Up to 64 vertices have at most 2,080 links, one for each pair a ≤ b.
+pub edgeCount-max : (g : Graph) → g .order ≤ 64 → edgeCount g ≤ 2080
 unfolding edgeCount sumBelow
 edgeCount-max g h =
-    let rows = sumBelow-le (g .order) (rowEdgeCount g) (λ a. 64 - suc a) (λ a l. omega (arith, rowEdgeCount-max g a)) in
-    let more = sumBelow-more (g .order) 64 (λ a. 64 - suc a) h in
-    let total : sumBelow 64 (λ a. 64 - suc a) ≡ 2016 = refl in
+    let rows = sumBelow-le (g .order) (rowEdgeCount g) (λ a. 64 - a) (λ a l. omega (arith, rowEdgeCount-max g a)) in
+    let more = sumBelow-more (g .order) 64 (λ a. 64 - a) h in
+    let total : sumBelow 64 (λ a. 64 - a) ≡ 2080 = refl in
     omega arith
 
--- The written bytes of up to 64 vertices number at most 8,193.
-pub length-max : (g : Graph) → g .order ≤ 64 → length (graphBytes g) ≤ 8193
+-- The written bytes of up to 64 vertices number at most 8,449.
+pub length-max : (g : Graph) → g .order ≤ 64 → length (graphBytes g) ≤ 8449
 length-max g h = omega (arith, length-graphBytes g, edgeCount-max g h)

@@ -4,3 +4,4 @@ pub mod RoundTrip
 pub mod Stretches
 pub mod WriteSections
 pub mod Written
+pub mod LongestFile

@@ -7,9 +7,9 @@ use Prim.Native.Nat.{ℕ, suc, _+_, _/_, _%_, _≤_, _<_, min, max}
 use native.Mathlib.Numerals.{add-one}
 use native.Mathlib.Decide.{ℕ-discrete}
 use native.Mathlib.Omega.{arith}
-use lib.Dec.{ltb, eqb}
+use lib.Dec.{leb, eqb}
 use lib.ListN.{length, take, getD, set}
-use borrow.Author.Tests.{ltb-true, ltb-false, eqb-true, eqb-false, eq-eqb}
+use borrow.Author.Tests.{leb-true, leb-false, eqb-true, eqb-false, eq-eqb}
 use Rattle.bounded.specs.Below.{runBelow}
 use Rattle.answers.specs.Answer.{accepted}
 use Rattle.graph.specs.Graph.{Graph, graph, place, label, edge, Sound, emptyGraph}
@@ -26,11 +26,11 @@ use Rattle.graph_writer.proofs.Written.{written-passed, written-bytes}
 abbrev edgeRank : ℕ → ℕ
 edgeRank i = place (min (i / 64) (i % 64)) (max (i / 64) (i % 64))
 
--- a lower and a higher vertex stand at two places
+-- a lower and a higher vertex stand at two places, a vertex with itself at one
 pair-places : (x y a b : ℕ) → min x y ≡ a → max x y ≡ b → (a ≤ b) × (place x y ≢ place a b → place x y ≡ place b a)
 pair-places x y a b low high = omega arith
 
--- so the entries of rank place a b stand at these two
+-- so the entries of rank place a b stand at these
 rank-places : (a b i : ℕ) → b < 64 → i < 4096 → edgeRank i ≡ place a b → (a ≤ b) × (i ≢ place a b → i ≡ place b a)
 rank-places a b i hb h r =
     let v = vertices-of i h in
@@ -99,7 +99,7 @@ module _ (g : Graph) (s : Sound g) where
       (partial-same 4096 edgeRank (g .edges) (place a b) (place a (suc b)) (omega arith) (λ i h r r′. entry-null a b ha hb null i h (omega arith)))
 
   -- where it gives that edge, that rank is filled in by it
-  edge-set : (a b : ℕ) → a < b → b < 64 → withEdge (edgesRead g (place a b)) a b (edge g a b) ≡ edgesRead g (place a (suc b))
+  edge-set : (a b : ℕ) → a ≤ b → b < 64 → withEdge (edgesRead g (place a b)) a b (edge g a b) ≡ edgesRead g (place a (suc b))
   edge-set a b l hb = ap (graph (g .order) (g .labels))
       (ap (set (set (edgesTo g (place a b)) (place a b) (edge g a b)) (place b a)) (s .symmetric a b (omega arith) hb)
       ∙ partial-set-both 4096 edgeRank (g .edges) (place a b) (place a b) (place b a) (omega arith) (omega arith) (omega arith) (omega arith)
@@ -108,7 +108,7 @@ module _ (g : Graph) (s : Sound g) where
 
   -- what the writer gives at a and b adds the edges of that rank
   edge-made : (a b : ℕ) → a < g .order → b < g .order → Makes (edgesRead g (place a b)) (edgeBytes g a b) (edgesRead g (place a (suc b)))
-  edge-made a b ha hb = go (ltb a b) (eqb (edge g a b) 0) refl refl
+  edge-made a b ha hb = go (leb a b) (eqb (edge g a b) 0) refl refl
     where
       a-max : a < 64
       a-max = omega arith
@@ -116,18 +116,17 @@ module _ (g : Graph) (s : Sound g) where
       b-max : b < 64
       b-max = omega arith
 
-      go : (t u : Bool) → ltb a b ≡ t → eqb (edge g a b) 0 ≡ u
+      go : (t u : Bool) → leb a b ≡ t → eqb (edge g a b) 0 ≡ u
           → Makes (edgesRead g (place a b)) (cond (t && not u) (2 ∷ a ∷ b ∷ edge g a b ∷ []) []) (edgesRead g (place a (suc b)))
       go true false p q =
-          let l = ltb-true a b p in
+          let l = leb-true a b p in
           subst (Makes (edgesRead g (place a b)) (2 ∷ a ∷ b ∷ edge g a b ∷ [])) (edge-set a b l b-max)
-          (makes-edge (edgesRead g (place a b)) a b (edge g a b) (omega arith) (omega arith) (omega (arith, eqb-false (edge g a b) 0 q))
+          (makes-edge (edgesRead g (place a b)) a b (edge g a b) (omega arith) (omega (arith, eqb-false (edge g a b) 0 q))
           (partial-new 4096 edgeRank (g .edges) (place a b) (place a b) (omega arith) (omega arith)))
       go true true p q = subst (Makes (edgesRead g (place a b)) [])
           (edge-null a b a-max b-max (λ l. eqb-true (edge g a b) 0 q)) (makes-nothing (edgesRead g (place a b)))
       go false u p q = subst (Makes (edgesRead g (place a b)) [])
-          (edge-null a b a-max b-max (λ l. let e : b ≡ a = omega (arith, ltb-false a b p) in rw e (s .irreflexive a a-max)))
-          (makes-nothing (edgesRead g (place a b)))
+          (edge-null a b a-max b-max (λ l. absurd (omega (arith, leb-false a b p)))) (makes-nothing (edgesRead g (place a b)))
 
   -- a row's edges end at the graph's order
   row-end : (a : ℕ) → edgesRead g (place a (g .order)) ≡ edgesRead g (place (suc a) 0)

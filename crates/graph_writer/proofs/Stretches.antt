@@ -52,14 +52,14 @@ makes-vertex g label l o = record {
 }
 
 -- "2, a, b, kind: a link between parts already given", where the label is not 0 and the pair has no edge yet
-pub makes-edge : (g : Graph) (a b label : ℕ) → max a b < g .order → (a ≡ b → ⊥) → 1 ≤ label → edge g a b ≡ 0
+pub makes-edge : (g : Graph) (a b label : ℕ) → max a b < g .order → 1 ≤ label → edge g a b ≡ 0
     → Makes g (2 ∷ a ∷ b ∷ label ∷ []) (withEdge g a b label)
 unfolding judge
-makes-edge g a b label m n l e = record {
+makes-edge g a b label m l e = record {
   onward = λ at rest.
       read-grows g (withEdge g a b label) at (2 ∷ a ∷ b ∷ label ∷ rest) (Edge a b label)
       (simp (ne-eqb (length (2 ∷ a ∷ b ∷ label ∷ rest)) 0 (omega arith), le-leb 4 (length (2 ∷ a ∷ b ∷ label ∷ rest)) (omega arith)))
-      (simp (lt-leb (g .order) (max a b) m, ne-eqb a b n, ne-eqb label 0 (omega arith), eq-eqb (edge g a b) 0 e));
+      (simp (lt-leb (g .order) (max a b) m, ne-eqb label 0 (omega arith), eq-eqb (edge g a b) 0 e));
 }
 
 -- "0: end", and nothing after it

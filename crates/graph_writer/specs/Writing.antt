@@ -1,9 +1,9 @@
 -- The bytes of a graph, and writing them into a lent buffer: 01, "Charts", "The writer gives all parts, then the links with a < b by rising a,
--- then rising b, then the end", and the row "Output" of the refusals.
+-- then rising b, then the end", and the row "Output" of the refusals; since 02, U4, "The writer takes a ≤ b".
 use mathlib.Core.Bool.{Bool, cond, not, _&&_}
 use mathlib.Core.List.{List, [], _∷_, _++_}
 use Prim.Native.Nat.{ℕ, _+_}
-use lib.Dec.{ltb, eqb}
+use lib.Dec.{leb, eqb}
 use Rattle.bounded.specs.Below.{sumBelow, runBelow}
 use Rattle.answers.specs.Output.{Writing, writeIf}
 use Rattle.graph.specs.Graph.{Graph, label, edge}
@@ -14,9 +14,9 @@ use Rattle.graph_writer.specs.Answers.{writeAnswer}
 abbrev pub vertexBytes : Graph → ℕ → List ℕ
 vertexBytes g v = 1 ∷ label g v ∷ []
 
--- "the links with a < b"
+-- 02, U4: "The writer takes a ≤ b"
 abbrev pub listed : Graph → ℕ → ℕ → Bool
-listed g a b = ltb a b && not (eqb (edge g a b) 0)
+listed g a b = leb a b && not (eqb (edge g a b) 0)
 
 abbrev pub edgeBytes : Graph → ℕ → ℕ → List ℕ
 edgeBytes g a b = cond (listed g a b) (2 ∷ a ∷ b ∷ edge g a b ∷ []) []
@@ -30,7 +30,7 @@ graphBytes g = runBelow (g .order) (vertexBytes g) ++ runBelow (g .order) (rowBy
 abbrev pub rowEdgeCount : Graph → ℕ → ℕ
 rowEdgeCount g a = sumBelow (g .order) (λ b. cond (listed g a b) 1 0)
 
--- how many edges the graph has, each counted once, at a < b
+-- how many edges the graph has, each counted once, at a ≤ b
 unfoldable pub edgeCount : Graph → ℕ
 edgeCount g = sumBelow (g .order) (rowEdgeCount g)
 

@@ -13,12 +13,12 @@ ghost use Rattle.answers.specs.Output.{fill};
 ghost use Rattle.graph.specs.Graph.{graph};
 ghost use Rattle.graph_writer.specs.Writing.{vertexBytes, rowBytes, graphBytes, listed, rowEdgeCount, edgeCount, writingOf};
 
-// Whether the writer gives the edge of a and b: where it is not null, and a comes first.
+// Whether the writer gives the edge of a and b: where it is not null, and b is not before a.
 pub fn is_listed(edges: &[u8], a: usize, b: usize) -> bool
     requires { ⌜ (length (now edges) ≡ 4096) × (a < 64) × (b < 64) ⌝ }
     ensures { λ r. ⌜ r ≡ listed (graph 0 [] (now (edges .entry))) a b ⌝ }
 {
-    if a < b {
+    if a <= b {
         return edges[MAX_ORDER * a + b] != 0;
     }
     false

@@ -7,3 +7,5 @@ pub mod Removal
 pub mod RowFault
 pub mod Size
 pub mod LentRows
+pub mod Apart
+pub mod Examples

@@ -17,12 +17,12 @@ pub common-pairwise : (P : Problem) (l : List ℕ) → Common P l → Pairwise P
 common-pairwise P l c = record { entries = c .entries; alone = alone; together = together }
   where
     alone : (v : ℕ) → v < length l → getD l v 0 ≢ unmapped → allowed P v (getD l v 0) ≡ true
-    alone v h m = let i = mapped-x l v h m in rw (← i .2) (facts-allowed P _ _ (c .image (i .0) (i .1)) (c .vertices (i .0) (i .1)))
+    alone v h m = let i = mapped-x l v h m in rw (← i .2) (facts-allowed P _ _ (c .image (i .0) (i .1)) (c .vertices (i .0) (i .1)) (c .edges (i .0) (i .0) (i .1) (i .1)))
 
     pair : (i j : ℕ) → i < size l → j < size l → x l i < x l j → consistent P (x l i) (y l i) (x l j) (y l j) ≡ true
     pair i j hi hj h =
         let apart : i ≢ j = λ q. let e : x l i ≡ x l j = ap (x l) q in omega arith in
-        facts-consistent P (x l i) (y l i) (x l j) (y l j) (λ e. apart (c .injective i j hi hj e)) (c .edges i j hi hj apart)
+        facts-consistent P (x l i) (y l i) (x l j) (y l j) (λ e. apart (c .injective i j hi hj e)) (c .edges i j hi hj)
 
     together : (u v : ℕ) → u < v → v < length l → getD l u 0 ≢ unmapped → getD l v 0 ≢ unmapped
         → consistent P u (getD l u 0) v (getD l v 0) ≡ true
@@ -40,10 +40,10 @@ pairwise-common P l s p =
       image = λ i h. alone i h .0;
       injective = λ i j hi hj e. injective i j hi hj e (ℕ-discrete i j);
       vertices = λ i h. alone i h .1;
-      edges = λ i j hi hj ne. together i j hi hj ne .1;
+      edges = λ i j hi hj. agree i j hi hj (ℕ-discrete i j);
     }
   where
-    alone : (i : ℕ) → i < size l → (y l i < P .new .order) × (compareVertices P (x l i) (y l i) ≡ true)
+    alone : (i : ℕ) → i < size l → (y l i < P .new .order) × (compareVertices P (x l i) (y l i) ≡ true) × (compareEdges P (x l i) (x l i) (y l i) (y l i) ≡ true)
     alone i h = allowed-facts P (x l i) (y l i) (p .alone (x l i) (x-below l i h) (x-mapped l i h))
 
     old-below : (i : ℕ) → i < size l → x l i < 64
@@ -64,6 +64,10 @@ pairwise-common P l s p =
             let apart : x l i ≢ x l j = λ e. ne (x-injective l i j hi hj e) in
             consistent-symmetric P s (x l j) (y l j) (x l i) (y l i) (old-below j hj) (old-below i hi) (new-below j hj) (new-below i hi)
             (rising j i hj hi (omega arith))
+
+    agree : (i j : ℕ) → i < size l → j < size l → Dec (i ≡ j) → compareEdges P (x l i) (x l j) (y l i) (y l j) ≡ true
+    agree i j hi hj (yes q) = rw (← q) (alone i hi .2)
+    agree i j hi hj (no ne) = together i j hi hj ne .1
 
     injective : (i j : ℕ) → i < size l → j < size l → y l i ≡ y l j → Dec (i ≡ j) → i ≡ j
     injective i j hi hj e (yes q) = q

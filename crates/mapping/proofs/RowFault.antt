@@ -13,7 +13,7 @@ use Rattle.bounded.proofs.First.{firstBelow-none, none-firstBelow, firstBelow-s
 use Rattle.problem.specs.Problem.{Problem, compareVertices, compareEdges, allowed, consistent}
 use Rattle.mapping.specs.Common.{unmapped}
 use Rattle.mapping.specs.Answers.{Outcome, accepted, refusedRow, refusedRows}
-use Rattle.mapping.specs.Check.{clash, rowFault}
+use Rattle.mapping.specs.Check.{clash, edgeFault, rowFault}
 use Rattle.problem.proofs.Consistent.{allowed-facts, facts-allowed, consistent-facts, facts-consistent}
 
 -- the tests of a row against an earlier one: the earlier is left out, the images are the same, the edges agree
@@ -49,6 +49,15 @@ row-outcome false true true earlier p q o e np nq = e
 row-outcome false true false earlier p q o e np nq = absurd (np (cc))
 row-outcome false false agree earlier p q o e np nq = absurd (nq (cc))
 
+-- the test of a row with itself, and then those against the earlier rows
+edges-passed : (own : Bool) (earlier : Option Outcome) (p : Outcome) → cond own earlier (some p) ≡ none → (own ≡ true) × (earlier ≡ none)
+edges-passed true earlier p e = (refl, e)
+edges-passed false earlier p e = absurd (Option·some-ne-none p e)
+
+edges-outcome : (own : Bool) (earlier : Option Outcome) (p o : Outcome) → cond own earlier (some p) ≡ some o → (p ≢ o) → earlier ≡ some o
+edges-outcome true earlier p o e np = e
+edges-outcome false earlier p o e np = absurd (np (cc))
+
 module _ (P : Problem) (l : List ℕ) where
   -- what the check asks of row v and the earlier row u
   abbrev pub PairPasses : ℕ → ℕ → Type 0
@@ -79,10 +88,11 @@ module _ (P : Problem) (l : List ℕ) where
   pub row-none : (v : ℕ) → rowFault P l v ≡ none → RowPasses v
   unfolding rowFault
   row-none v e m =
-      let tests = row-passed (ltb (getD l v 0) (P .new .order)) (compareVertices P v (getD l v 0)) (firstBelow v (clash P l v)) _ _
-      (rw (ne-eqb (getD l v 0) unmapped m) at e) in (
-        facts-allowed P v (getD l v 0) (ltb-true (getD l v 0) (P .new .order) (tests .0)) (tests .1),
-        λ u h. clash-none v u (firstBelow-none v (clash P l v) (tests .2) u h),
+      let tests = row-passed (ltb (getD l v 0) (P .new .order)) (compareVertices P v (getD l v 0)) (edgeFault P l v) _ _
+      (rw (ne-eqb (getD l v 0) unmapped m) at e) in
+      let own = edges-passed (compareEdges P v v (getD l v 0) (getD l v 0)) (firstBelow v (clash P l v)) _ (tests .2) in (
+        facts-allowed P v (getD l v 0) (ltb-true (getD l v 0) (P .new .order) (tests .0)) (tests .1) (own .0),
+        λ u h. clash-none v u (firstBelow-none v (clash P l v) (own .1) u h),
       )
 
   -- A row that is left out, or allowed and consistent with the earlier mapped rows, has no fault.
@@ -95,7 +105,7 @@ module _ (P : Problem) (l : List ℕ) where
       go false e =
           let passes = f (eqb-false (getD l v 0) unmapped e) in
           let facts = allowed-facts P v (getD l v 0) (passes .0) in
-          simp (e, lt-ltb (getD l v 0) (P .new .order) (facts .0), facts .1)
+          simp (e, lt-ltb (getD l v 0) (P .new .order) (facts .0), facts .1, facts .2)
           (none-firstBelow v (clash P l v) (λ u h. none-clash v u (passes .1 u h)))
 
   -- A row's fault is a refusal.
@@ -103,8 +113,9 @@ module _ (P : Problem) (l : List ℕ) where
   unfolding rowFault
   row-refuses v n e =
       let first = firstBelow-some v (clash P l v) (accepted n)
-      (row-outcome (eqb (getD l v 0) unmapped) (ltb (getD l v 0) (P .new .order)) (compareVertices P v (getD l v 0)) (firstBelow v (clash P l v))
-      (refusedRow 21 v) (refusedRow 19 v) (accepted n) e (λ q. true≢false (cc)) (λ q. true≢false (cc))) in
+      (edges-outcome (compareEdges P v v (getD l v 0) (getD l v 0)) (firstBelow v (clash P l v)) (refusedRows 22 v v) (accepted n)
+      (row-outcome (eqb (getD l v 0) unmapped) (ltb (getD l v 0) (P .new .order)) (compareVertices P v (getD l v 0)) (edgeFault P l v)
+      (refusedRow 21 v) (refusedRow 19 v) (accepted n) e (λ q. true≢false (cc)) (λ q. true≢false (cc))) (λ q. true≢false (cc))) in
       let u = first .0 in
       clash-outcome (eqb (getD l u 0) unmapped) (eqb (getD l u 0) (getD l v 0)) (compareEdges P u v (getD l u 0) (getD l v 0))
       (refusedRows 20 v u) (refusedRows 22 v u) (accepted n) (first .2) (λ q. true≢false (cc)) (λ q. true≢false (cc))

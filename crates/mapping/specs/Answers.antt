@@ -13,7 +13,7 @@ pub data Outcome : Type 0 where
   refused : ℕ → Outcome
   -- number, then row
   refusedRow : ℕ → ℕ → Outcome
-  -- number, row, then the earlier row
+  -- number, row, then the earlier row, or the same row where it is held against itself (02, U4)
   refusedRows : ℕ → ℕ → ℕ → Outcome
 
 -- what the check of two lists says: the graphs' refusal, or each list's outcome

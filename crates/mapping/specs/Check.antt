@@ -1,5 +1,5 @@
 -- The check of a mapping, by the row "Partner list" of 01's refusals: 18, then row by row 19, 21, and against each earlier mapped row, rising, 20 and 22;
--- 02, U1, puts 23 and 24 before them.
+-- 02, U1, puts 23 and 24 before them, and 02, U4, 22 of the row with itself after 21.
 use mathlib.Core.Bool.{Bool, cond}
 use mathlib.Core.List.{List}
 use mathlib.Core.Option.{Option, none, some}
@@ -31,18 +31,22 @@ clash P l v u =
     (cond (eqb (getD l u 0) (getD l v 0)) (some (refusedRows 20 v u))
     (cond (compareEdges P u v (getD l u 0) (getD l v 0)) none (some (refusedRows 22 v u))))
 
--- one row: its entry is a new vertex, of this many, the labels agree by this test, and then what is found against earlier rows
-abbrev pub rowBy : ℕ → (ℕ → Bool) → Option Outcome → List ℕ → ℕ → Option Outcome
-rowBy order agrees earlier l v =
-    cond (eqb (getD l v 0) unmapped) none
-    (cond (ltb (getD l v 0) order) (cond (agrees (getD l v 0)) earlier (some (refusedRow 21 v))) (some (refusedRow 19 v)))
-
-unfoldable pub rowFault : Problem → List ℕ → ℕ → Option Outcome
-rowFault P l v = rowBy (P .new .order) (compareVertices P v) (firstBelow v (clash P l v)) l v
-
 abbrev pub onFault : Option Outcome → Outcome → Outcome
 onFault (some fault) o = fault
 onFault none o = o
+
+-- "22 tests the row with itself right after 21, and gives that row twice" (02, U4); then the earlier rows, rising
+abbrev pub edgeFault : Problem → List ℕ → ℕ → Option Outcome
+edgeFault P l v = cond (compareEdges P v v (getD l v 0) (getD l v 0)) (firstBelow v (clash P l v)) (some (refusedRows 22 v v))
+
+-- one row: its entry is a new vertex, of this many, the labels agree by this test, and then what is found in its edges
+abbrev pub rowBy : ℕ → (ℕ → Bool) → Option Outcome → List ℕ → ℕ → Option Outcome
+rowBy order agrees edges l v =
+    cond (eqb (getD l v 0) unmapped) none
+    (cond (ltb (getD l v 0) order) (cond (agrees (getD l v 0)) edges (some (refusedRow 21 v))) (some (refusedRow 19 v)))
+
+unfoldable pub rowFault : Problem → List ℕ → ℕ → Option Outcome
+rowFault P l v = rowBy (P .new .order) (compareVertices P v) (edgeFault P l v) l v
 
 -- a mapping of this many old vertices, row by row
 abbrev pub listBy : ℕ → (ℕ → Option Outcome) → List ℕ → Outcome

@@ -1,4 +1,4 @@
--- When a mapping is a common subgraph, as document 000 states it in formula (1): 01, "Good partner lists".
+-- When a mapping is a common subgraph, as document 000 states it in formula (1): 01, "Good partner lists", and 02, U4.
 -- 01 calls a mapping a partner list, and one that is a common subgraph good.
 use mathlib.Core.Path.{_≡_}
 use mathlib.Core.Bool.{true, cond}
@@ -32,7 +32,7 @@ abbrev pub y : List ℕ → ℕ → ℕ
 y l i = getD l (x l i) 0
 
 -- "The list is good when no new part comes twice, paired parts have equal kinds, and any two paired old parts have the same link value as
--- their partners. This is formula (1) of source document 000 for two different parts." Since 02, U1, kinds need only agree.
+-- their partners." Since 02, U1, kinds need only agree; since 02, U4, it is all of formula (1), which "covers a part with itself".
 pub record Common (P : Problem) (l : List ℕ) : Type 0 where
   -- one entry for each old vertex
   pub entries : length l ≡ P .old .order
@@ -40,7 +40,7 @@ pub record Common (P : Problem) (l : List ℕ) : Type 0 where
   pub image : (i : ℕ) → i < size l → y l i < P .new .order
   pub injective : (i j : ℕ) → i < size l → j < size l → y l i ≡ y l j → i ≡ j
   pub vertices : (i : ℕ) → i < size l → compareVertices P (x l i) (y l i) ≡ true
-  pub edges : (i j : ℕ) → i < size l → j < size l → (i ≡ j → ⊥) → compareEdges P (x l i) (x l j) (y l i) (y l j) ≡ true
+  pub edges : (i j : ℕ) → i < size l → j < size l → compareEdges P (x l i) (x l j) (y l i) (y l j) ≡ true
 
 -- the same, row by row: each mapped row is allowed, and each two mapped rows are consistent
 pub record Pairwise (P : Problem) (l : List ℕ) : Type 0 where

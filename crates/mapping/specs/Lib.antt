@@ -3,3 +3,4 @@ pub mod Order
 pub mod Answers
 pub mod Check
 pub mod LentRows
+pub mod Apart

@@ -22,7 +22,8 @@ pub struct OldVertex(pub usize);
 
 pub struct NewVertex(pub usize);
 
-// The answer of `check_mapping`: the mapping's size, or the refusal with its row and, where two rows clash, the earlier row.
+// The answer of `check_mapping`: the mapping's size, or the refusal with its row and, where two rows clash, the earlier row; of a
+// row with itself, that row twice.
 pub enum MappingAnswer {
     Common(usize),
     Flawed(ProblemFlaw),

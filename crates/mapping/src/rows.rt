@@ -1,4 +1,4 @@
-// The check of a mapping row by row, each row against the earlier ones.
+// The check of a mapping row by row, each row with itself and then against the earlier ones.
 
 use super::MappingAnswer;
 use super::NewVertex;
@@ -101,7 +101,7 @@ pub fn first_clash<'a>(edges: Edges<'a>, mapping: &[u8], v: OldVertex) -> Findin
     Finding::Clear
 }
 
-// One row: its own entry, then the earlier rows. The rows before it are clear.
+// One row: its own entry and its vertex with itself, then the earlier rows. The rows before it are clear.
 pub fn row_fault<'a>(
     orders: Orders,
     agreeing: &[u64; MAX_ORDER],
@@ -124,6 +124,9 @@ pub fn row_fault<'a>(
     }
     if !compare_vertices(agreeing, v, NewVertex(w)) {
         return Finding::Fault(MappingAnswer::LabelsDisagree(v));
+    }
+    if !compare_edges(edges, v, v, NewVertex(w), NewVertex(w)) {
+        return Finding::Fault(MappingAnswer::EdgesDiffer(v, v));
     }
     first_clash(edges, mapping, v)
 }

@@ -1,5 +1,6 @@
 // Runs `mapping::check_mapping` on small cases and writes what each says. The expected output was worked out by hand from document 01,
-// "Good partner lists" and "Refusals by place of checking", and from document 02, U1, where a list of substitutes is lent.
+// "Good partner lists" and "Refusals by place of checking", and from document 02: U1, where a list of substitutes is lent, and
+// U4, where a part has a link with itself.
 
 mod lines;
 mod tables;
@@ -63,6 +64,11 @@ fn on_q(name: &[u8], list: &[u8]) {
         b"",
         list,
     );
+}
+
+// Two sound graphs, and no substitutes.
+fn on_sound(name: &[u8], old: &[u8], new: &[u8], list: &[u8]) {
+    case(name, old, Harm::Sound, new, Harm::Sound, b"", list);
 }
 
 // 64 parts of kind 1 on each side, and no links.
@@ -228,6 +234,67 @@ fn earlier_rows() {
     on_q(b"edges differ with rows 0 and 2", b"\x00\xff\x02\x01");
 }
 
+fn own_edges() {
+    on_sound(
+        b"own edge in the old graph only",
+        b"\x01\x07\x02\x00\x00\x01\x00",
+        b"\x01\x07\x00",
+        b"\x00",
+    );
+    on_sound(
+        b"own edge in the new graph only",
+        b"\x01\x07\x00",
+        b"\x01\x07\x02\x00\x00\x01\x00",
+        b"\x00",
+    );
+    on_sound(
+        b"own edges of two kinds",
+        b"\x01\x07\x02\x00\x00\x01\x00",
+        b"\x01\x07\x02\x00\x00\x02\x00",
+        b"\x00",
+    );
+    on_sound(
+        b"equal own edges",
+        b"\x01\x07\x02\x00\x00\x01\x00",
+        b"\x01\x07\x02\x00\x00\x01\x00",
+        b"\x00",
+    );
+    on_sound(
+        b"own edge of a row left out",
+        b"\x01\x07\x01\x07\x02\x00\x00\x01\x00",
+        b"\x01\x07\x00",
+        b"\xff\x00",
+    );
+}
+
+// A row's own edge is tested after its label, and before the earlier rows.
+fn own_edges_in_turn() {
+    on_sound(
+        b"labels differ before own edges differ",
+        b"\x01\x07\x02\x00\x00\x01\x00",
+        b"\x01\x09\x00",
+        b"\x00",
+    );
+    on_sound(
+        b"own edges differ before one partner",
+        b"\x01\x07\x01\x07\x02\x01\x01\x01\x00",
+        b"\x01\x07\x00",
+        b"\x00\x00",
+    );
+    on_sound(
+        b"equal own edges, one partner",
+        b"\x01\x07\x01\x07\x02\x00\x00\x01\x02\x01\x01\x01\x00",
+        b"\x01\x07\x02\x00\x00\x01\x00",
+        b"\x00\x00",
+    );
+    on_sound(
+        b"own edges differ before edges differ with row 0",
+        b"\x01\x07\x01\x07\x02\x00\x01\x01\x02\x01\x01\x01\x00",
+        b"\x01\x07\x01\x07\x00",
+        b"\x00\x01",
+    );
+}
+
 fn good() {
     on_p(b"01's matching", Harm::Sound, Harm::Sound, b"\x01\x00\xff");
     on_p(
@@ -377,6 +444,8 @@ fn main() {
     first_of_two();
     edges();
     earlier_rows();
+    own_edges();
+    own_edges_in_turn();
     good();
     empty_graphs();
     full_graphs();

@@ -19,7 +19,7 @@ pub enum Harm {
     Label,
     // 0, which is a vertex, has none
     NoLabel,
-    // 63 has an edge with itself
+    // 63, which is no vertex, has an edge with itself
     Edge,
 }
 

@@ -1,7 +1,7 @@
 -- What the tests of one mapped row and of two ask, and that the test of two does not depend on which of them comes first.
-use mathlib.Core.Path.{_≡_, sym, ap₂, _∙_}
+use mathlib.Core.Path.{_≡_, refl, sym, ap₂, _∙_}
 use mathlib.Core.Logic.{_≢_}
-use mathlib.Core.Bool.{true, not, and-eq-true-iff}
+use mathlib.Core.Bool.{Bool, true, false, not, _&&_, and-eq-true-iff}
 use Prim.Native.Nat.{ℕ, _<_}
 use lib.Dec.{ltb, eqb}
 use borrow.Author.Tests.{lt-ltb, ltb-true, ne-eqb, eqb-true, eqb-false, not-true}
@@ -9,16 +9,28 @@ use Rattle.graph.specs.Graph.{edge}
 use Rattle.problem.specs.Problem.{Problem, SoundProblem, compareVertices, compareEdges, allowed, consistent}
 
 module _ (P : Problem) where
-  -- An old vertex may lie on w only where w is a new vertex and the labels agree.
-  pub allowed-facts : (v w : ℕ) → allowed P v w ≡ true → (w < P .new .order) × (compareVertices P v w ≡ true)
+  -- An old vertex may lie on w only where w is a new vertex, the labels agree, and so do the edges with themselves.
+  pub allowed-facts : (v w : ℕ) → allowed P v w ≡ true
+      → (w < P .new .order) × (compareVertices P v w ≡ true) × (compareEdges P v v w w ≡ true)
   unfolding allowed
   allowed-facts v w e =
-      let both = and-eq-true-iff (ltb w (P .new .order)) (compareVertices P v w) .0 e in (ltb-true w (P .new .order) (both .0), both .1)
+      let own = and-eq-true-iff (ltb w (P .new .order) && compareVertices P v w) (compareEdges P v v w w) .0 e in
+      let both = and-eq-true-iff (ltb w (P .new .order)) (compareVertices P v w) .0 (own .0) in
+      (ltb-true w (P .new .order) (both .0), both .1, own .1)
 
-  -- Where w is a new vertex and the labels agree, an old vertex may lie on it.
-  pub facts-allowed : (v w : ℕ) → w < P .new .order → compareVertices P v w ≡ true → allowed P v w ≡ true
+  -- Where all that holds, an old vertex may lie on w.
+  pub facts-allowed : (v w : ℕ) → w < P .new .order → compareVertices P v w ≡ true → compareEdges P v v w w ≡ true → allowed P v w ≡ true
   unfolding allowed
-  facts-allowed v w h e = rw (lt-ltb w (P .new .order) h) e
+  facts-allowed v w h e own = rw (lt-ltb w (P .new .order) h, e) own
+
+  -- That w is a new vertex need not be asked again.
+  pub new-vertex : (v w : ℕ) → (ltb w (P .new .order) && allowed P v w) ≡ allowed P v w
+  unfolding allowed
+  new-vertex v w = go (ltb w (P .new .order))
+    where
+      go : (t : Bool) → (t && (t && compareVertices P v w && compareEdges P v v w w)) ≡ (t && compareVertices P v w && compareEdges P v v w w)
+      go true = refl
+      go false = refl
 
   -- "link kinds must still be equal": no list makes edges agree.
   pub edges-equal : (v v′ w w′ : ℕ) → compareEdges P v v′ w w′ ≡ true → edge (P .old) v v′ ≡ edge (P .new) w w′

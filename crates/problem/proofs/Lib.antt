@@ -1,3 +1,4 @@
 pub mod Consistent
 pub mod ProblemPasses
 pub mod VertexSets
+pub mod OwnEdges

@@ -1,4 +1,4 @@
--- Two graphs to be compared, and when a vertex, and then a pair of vertices, of the one may lie on the other's: 01, "Good partner lists", and 02, U1.
+-- Two graphs to be compared, and when a vertex, and then a pair of vertices, of the one may lie on the other's: 01, "Good partner lists", and 02, U1, U4.
 use mathlib.Core.Bool.{Bool, cond, not, _&&_}
 use mathlib.Core.List.{List, []}
 use Prim.Native.Nat.{ℕ}
@@ -36,9 +36,9 @@ compareVertices P v w = agree (P .substitutes) (label (P .old) v) (label (P .new
 abbrev pub compareEdges : Problem → ℕ → ℕ → ℕ → ℕ → Bool
 compareEdges P v v′ w w′ = eqb (edge (P .old) v v′) (edge (P .new) w w′)
 
--- the old vertex v may lie on w: w is a new vertex, and the labels agree
+-- the old vertex v may lie on w: w is a new vertex, the labels agree, and "paired parts need equal own links" (02, U4)
 unfoldable pub allowed : Problem → ℕ → ℕ → Bool
-allowed P v w = ltb w (P .new .order) && compareVertices P v w
+allowed P v w = ltb w (P .new .order) && compareVertices P v w && compareEdges P v v w w
 
 -- v on w and v′ on w′ may stand together: two new vertices, and the edges agree
 unfoldable pub consistent : Problem → ℕ → ℕ → ℕ → ℕ → Bool

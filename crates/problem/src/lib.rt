@@ -1,8 +1,11 @@
 // Two graphs to be compared: three arrays, of their orders, label tables and edge tables, each with the old graph's at 0 and the new graph's at 1; and a list
 // of substitutes, pairs of an old and a new label that agree beside equal ones.
 
+mod vertex_sets;
+
 use graph::Flaw;
 use graph::Label;
+use graph::MAX_ORDER;
 use graph::Soundness;
 use substitutes::SubstitutesAnswer;
 ghost use mathlib.Core.Path.{_≡_};
@@ -13,6 +16,7 @@ ghost use Rattle.graph.specs.Soundness.{soundness};
 ghost use Rattle.substitutes.specs.Soundness.{substitutesAnswer};
 ghost use Rattle.problem.specs.Problem.{bothFit, problemAnswer};
 ghost use Rattle.problem.specs.Lent.{graphAt, lent};
+ghost use Rattle.problem.specs.VertexSets.{Allowing};
 ghost use Rattle.problem.specs.Answers.{problemFlawNumber, problemAnswerOf};
 
 pub type Orders = [usize; 2];
@@ -113,4 +117,19 @@ pub fn check_problem<'a>(
         ProblemAnswer::Flawed(flaw) => ProblemAnswer::Flawed(flaw),
         ProblemAnswer::Sound => judge_substitutes(substitutes),
     }
+}
+
+// For each old vertex the set of the new vertices that it may lie on. An edge with itself is to a vertex like a second label, which no list lets differ.
+pub fn allowed_sets<'a>(
+    labels: Labels<'a>,
+    edges: Edges<'a>,
+    substitutes: &[u8],
+) -> [u64; MAX_ORDER]
+    ensures { λ r. ⌜ Allowing (labels .entry) (edges .entry) (now (substitutes .entry)) r ⌝ }
+{
+    let agreeing = substitutes::agreeing(labels[0], labels[1], substitutes);
+    let old = vertex_sets::diagonal(edges[0]);
+    let new = vertex_sets::diagonal(edges[1]);
+    let same = substitutes::agreeing(&old, &new, &[]);
+    vertex_sets::meet_all(agreeing, same)
 }

@@ -71,6 +71,13 @@ sevens kind = 1 ∷ 7 ∷ 1 ∷ 7 ∷ 2 ∷ 0 ∷ 1 ∷ kind ∷ 0 ∷ []
 abbrev pub loose : List ℕ
 loose = 1 ∷ 7 ∷ 1 ∷ 7 ∷ 1 ∷ 7 ∷ 2 ∷ 0 ∷ 1 ∷ 1 ∷ 0 ∷ []
 
+-- one part of kind 7, linked with itself by this kind; two of kind 7, linked with each other and with themselves by 5
+abbrev pub held : ℕ → List ℕ
+held kind = 1 ∷ 7 ∷ 2 ∷ 0 ∷ 0 ∷ kind ∷ 0 ∷ []
+
+abbrev pub allFives : List ℕ
+allFives = 1 ∷ 7 ∷ 1 ∷ 7 ∷ 2 ∷ 0 ∷ 0 ∷ 5 ∷ 2 ∷ 1 ∷ 1 ∷ 5 ∷ 2 ∷ 0 ∷ 1 ∷ 5 ∷ 0 ∷ []
+
 -- one part of kind 7 against one of kind 9, with these substitutes
 abbrev pub listing : List ℕ → Problem
 listing list = substituting list (between one nine)
@@ -123,3 +130,12 @@ listing-sound list e =
 pub sevens-sound : SoundProblem (between (sevens 1) (sevens 2))
 unfolding reading readFrom judge bytes
 sevens-sound = between-sound (sevens 1) (sevens 2) refl refl 2 2 refl refl
+
+-- one part held by itself against one that is not
+pub held-sound : SoundProblem (between (held 1) one)
+unfolding reading readFrom judge bytes
+held-sound = between-sound (held 1) one refl refl 1 1 refl refl
+
+pub fives-sound : SoundProblem (between allFives (held 5))
+unfolding reading readFrom judge bytes
+fives-sound = between-sound allFives (held 5) refl refl 2 1 refl refl

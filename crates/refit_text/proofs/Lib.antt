@@ -5,3 +5,4 @@ pub mod TextLengths
 pub mod RefitLength
 pub mod FilledBuffer
 pub mod ProgramExample
+pub mod CutFiles

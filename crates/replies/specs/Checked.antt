@@ -1,4 +1,4 @@
--- The reply to the check of a mapping (01, "Refusals by place of checking", the row "Partner list").
+-- The reply to the check of a mapping (01, "Refusals by place of checking", the row "Partner list", and 02, U4).
 use Prim.Native.Nat.{ℕ}
 use Rattle.mapping.specs.Answers.{Outcome, accepted, refused, refusedRow, refusedRows, outcomeNumber}
 use Rattle.replies.specs.declared.Reply.{Reply}
@@ -12,7 +12,7 @@ pub record CheckedMapping : Type 0 where
 abbrev pub checked : Reply → ℕ → CheckedMapping
 checked r earlier = record { reply = r; earlier = earlier }
 
--- "19 to 22 give the row, 20 and 22 also the earlier row"; an accepted mapping gives its size
+-- "19 to 22 give the row, 20 and 22 also the earlier row", or that row twice (02, U4); an accepted mapping gives its size
 abbrev pub outcomeValue : Outcome → ℕ
 outcomeValue (accepted size) = size
 outcomeValue (refused number) = 0

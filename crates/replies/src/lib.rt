@@ -38,7 +38,7 @@ pub struct Reply {
     pub value: u64,
 }
 
-// A reply, and the earlier row.
+// A reply, and the earlier row, or the same row where it is held against itself.
 pub struct MappingReply {
     pub reply: Reply,
     pub earlier: u64,

@@ -87,7 +87,7 @@ pub fn mapping_value(answer: MappingAnswer) -> u64
     }
 }
 
-// The earlier row, where two rows clash.
+// The earlier row, where two rows clash, or the same row where it is held against itself.
 pub fn earlier_row(answer: MappingAnswer) -> u64
     ensures { λ r. ⌜ r ≡ earlierRow (mappingOutcome answer) ⌝ }
 {

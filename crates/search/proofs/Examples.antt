@@ -1,5 +1,5 @@
--- 01, "Marked examples to prove": all fourteen rows, and three of 02, U1, with a list, by the definitions that the contracts cite. The walk and the readings are computed;
--- the graphs and that they are sound are those of `MarkedGraphs`.
+-- 01, "Marked examples to prove": all fourteen rows, three of 02, U1, with a list, and of 02, U4, with links of a part with itself, by the definitions that the
+-- contracts cite. The walk and the readings are computed; the graphs and that they are sound are those of `MarkedGraphs`.
 use mathlib.Core.Path.{_≡_, refl, ap, _∙_}
 use mathlib.Core.Bool.{true, false}
 use mathlib.Core.List.{List, [], _∷_, _++_, append-nil}
@@ -7,7 +7,7 @@ use mathlib.Core.Option.{Option, none, some}
 use Prim.Native.Nat.{ℕ, _<_, _^_}
 use native.Mathlib.Omega.{arith}
 use lib.Dec.{lit<}
-use lib.ListN.{replicate, length-replicate, drop-of-length-le}
+use lib.ListN.{set, replicate, length-replicate, drop-of-length-le}
 use Rattle.bounded.specs.Below.{allBelow, someBelow, sumBelow, runBelow}
 use Rattle.bounded.specs.First.{firstBelow}
 use Rattle.answers.specs.Answer.{accepted}
@@ -28,11 +28,15 @@ use Rattle.problem_reader.proofs.MarkedGraphs.{
   linked,
   unlinked,
   listing,
+  held,
+  allFives,
   pair-sound,
   empty-sound,
   one-sound,
   linked-sound,
   listing-sound,
+  held-sound,
+  fives-sound,
 }
 use Rattle.search_tree.specs.Rules.{rulesOf}
 use Rattle.search_tree.specs.Search.{searchOf}
@@ -93,7 +97,7 @@ ends P sound minimum steps incumbent top walk above = λ i. record {
 
 -- ---- the rows
 
--- 01's marked examples, row by row, with no substitutes; then three with a list, of the check and of the search from floor 0.
+-- 01's marked examples, row by row, with no substitutes; then three with a list, of the check and of the search from floor 0; then those of 02, U4.
 pub marked-examples :
     -- P, floor 1: 1 0 255, 6 steps, fence 3
     Ends pair 1 6 (some (1 ∷ 0 ∷ 255 ∷ [])) 3
@@ -122,14 +126,18 @@ pub marked-examples :
     × (readTables [] ≡ refuseAt 1 0)
     -- 1 7 2 0 1 1 0: 5 at 2
     × (readTables (1 ∷ 7 ∷ 2 ∷ 0 ∷ 1 ∷ 1 ∷ 0 ∷ []) ≡ refuseAt 5 2)
-    -- 1 7 2 0 0 1 0: 6 at 2
-    × (readTables (1 ∷ 7 ∷ 2 ∷ 0 ∷ 0 ∷ 1 ∷ 0 ∷ []) ≡ refuseAt 6 2)
+    -- 1 7 2 0 0 1 0: an accepted chart, since 02, U4
+    × (readTables (held 1) ≡ record { answer = accepted 1; labels = set (replicate 64 0) 0 7; edges = set (replicate 4096 0) 0 1 })
     -- 7 against 9, list 7 9: 0 is good, 3 steps, fence 2
     × ((listOutcome (listing (7 ∷ 9 ∷ [])) (0 ∷ []) ≡ outcome.accepted 1) × Ends (listing (7 ∷ 9 ∷ [])) 0 3 (some (0 ∷ [])) 2)
     -- 7 against 9, list 9 7: 21 at row 0, and 255, 2 steps, fence 1: a pair is read old then new
     × ((listOutcome (listing (9 ∷ 7 ∷ [])) (0 ∷ []) ≡ outcome.refusedRow 21 0) × Ends (listing (9 ∷ 7 ∷ [])) 0 2 (some (255 ∷ [])) 1)
     -- 7 against 9, list 7 8 8 9: the same, since pairs make no chain
     × ((listOutcome (listing (7 ∷ 8 ∷ 8 ∷ 9 ∷ [])) (0 ∷ []) ≡ outcome.refusedRow 21 0) × Ends (listing (7 ∷ 8 ∷ 8 ∷ 9 ∷ [])) 0 2 (some (255 ∷ [])) 1)
+    -- 7 linked with itself against 7 unlinked, floor 1: none, 1 step, fence 1; floor 0: 255, 2 steps, fence 1
+    × (Ends (between (held 1) one) 1 1 none 1 × Ends (between (held 1) one) 0 2 (some (255 ∷ [])) 1)
+    -- 7 7, all linked by 5, against 7 linked with itself by 5, floor 0: 0 255, 4 steps, fence 2; a part used on the path is no candidate, whatever links it has
+    × Ends (between allFives (held 5)) 0 4 (some (0 ∷ 255 ∷ [])) 2
 unfolding reading readFrom judge allBelow someBelow sumBelow runBelow firstBelow listed agree substitutesAnswer rowFault listOutcome allowed consistent mappedFrom candidate candidates upperBound choices children choicesAfter laterSiblings openNodes visitPath visit after topBound ceiling checkpointOf
 marked-examples = (
   ends pair pair-sound 1 6 (some (1 ∷ 0 ∷ 255 ∷ [])) 3 refl refl,
@@ -154,4 +162,6 @@ marked-examples = (
   (refl, ends (listing (7 ∷ 9 ∷ [])) (listing-sound (7 ∷ 9 ∷ []) refl) 0 3 (some (0 ∷ [])) 2 refl refl),
   (refl, ends (listing (9 ∷ 7 ∷ [])) (listing-sound (9 ∷ 7 ∷ []) refl) 0 2 (some (255 ∷ [])) 1 refl refl),
   (refl, ends (listing (7 ∷ 8 ∷ 8 ∷ 9 ∷ [])) (listing-sound (7 ∷ 8 ∷ 8 ∷ 9 ∷ []) refl) 0 2 (some (255 ∷ [])) 1 refl refl),
+  (ends (between (held 1) one) held-sound 1 1 none 1 refl refl, ends (between (held 1) one) held-sound 0 2 (some (255 ∷ [])) 1 refl refl),
+  ends (between allFives (held 5)) fives-sound 0 4 (some (0 ∷ 255 ∷ [])) 2 refl refl,
 )

@@ -1,7 +1,7 @@
 -- The words of a path's prefixes: those of the root, one more row decided, and that only the decided entries matter.
 use mathlib.Core.Path.{_≡_, refl, sym, ap, _∙_}
 use mathlib.Core.Logic.{⊎-elim}
-use mathlib.Core.Bool.{Bool, true, false, not, _&&_, _||_, and-true, and-self-left}
+use mathlib.Core.Bool.{Bool, true, false, not, _&&_, _||_, and-true}
 use mathlib.Core.List.{List, [], _∷_}
 use Prim.Native.Nat.{ℕ, _+_, _≤_, _<_}
 use native.Mathlib.Nat.{le-refl, eq-or-lt-of-le}
@@ -17,6 +17,7 @@ use Rattle.bitset.proofs.SetOf.{member-setOf, member-setOf-above, setOf-congr, 
 use Rattle.bounded.specs.Below.{allBelow}
 use Rattle.graph.specs.Graph.{graph, edge}
 use Rattle.problem.specs.Problem.{Problem, SoundProblem, allowed, consistent}
+use Rattle.problem.proofs.Consistent.{new-vertex}
 use Rattle.mapping.specs.Common.{unmapped, size}
 use Rattle.mapping.proofs.Size.{counted, counted-mapped, size-nil, size-cons, size-append}
 use Rattle.search_tree.specs.Rules.{rulesOf}
@@ -128,8 +129,8 @@ module _ (P : Problem) (sound : SoundProblem P) where
 
   -- at the root a candidate is a new vertex that the row may lie on
   candidate-root : (r v : ℕ) → candidate (rulesOf P) [] r v ≡ allowed P r v
-  unfolding candidate allowed allBelow
-  candidate-root r v = rw (and-true, and-self-left)
+  unfolding candidate allBelow
+  candidate-root r v = rw and-true (new-vertex P r v)
 
   -- The words of the root stand at level 0, whatever the path.
   pub root-words : {ws ws′ : List ℕ} → RootWords P ws ws′ → (path : List ℕ) → Words P path 0 ws′

@@ -82,8 +82,8 @@ fn advance<'a>(
     let old_edges = edges[0];
     let mut masks = [0u64; words::MASKS];
     words::fill_masks(orders[1], edges[1], &mut masks);
-    let agreeing = substitutes::agreeing(labels[0], labels[1], substitutes);
-    words::root_words(old_order, &agreeing, workspace);
+    let allowed = problem::allowed_sets(labels, edges, substitutes);
+    words::root_words(old_order, &allowed, workspace);
     let first = words::all_first(old_order, old_edges);
     let start = walk::start(checkpoint, old_order, old_edges, &masks, &first, workspace);
     let end = walk::run(

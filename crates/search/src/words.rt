@@ -11,7 +11,7 @@ ghost use Prim.Native.Nat.{ℕ, _+_, _*_, _≤_, _<_};
 ghost use lib.ListN.{length, getD, drop, replicate};
 ghost use Rattle.graph.specs.Graph.{graph};
 ghost use Rattle.problem.specs.Problem.{Problem};
-ghost use Rattle.problem.specs.VertexSets.{VertexSets};
+ghost use Rattle.problem.specs.VertexSets.{AllowedSets};
 ghost use Rattle.bitset.specs.Count.{size};
 ghost use Rattle.search.specs.Words.{Masks, MaskRow, RootWords, levelWord, Counted, openRows};
 ghost use Rattle.search.specs.Words.{Covers, First, Met, nearWord, farWord};
@@ -56,16 +56,16 @@ pub fn fill_masks(order: usize, edges: &[u8], masks: &mut [u64])
     }
 }
 
-// The words of the root, level 0: each row's vertices that it may lie on, those whose labels agree, and the set of the rows that have some.
-pub fn root_words(order: usize, agreeing: &[u64; MAX_ORDER], workspace: &mut [u64])
+// The words of the root, level 0: each row's vertices that it may lie on, and the set of the rows that have some.
+pub fn root_words(order: usize, allowed: &[u64; MAX_ORDER], workspace: &mut [u64])
     requires { ⌜ (order ≤ 64) × (4160 ≤ length (now workspace)) ⌝ }
-    ensures { λ _. ⌜ ((P : Problem) → P .old .order ≡ order → VertexSets P (now (agreeing .entry))
+    ensures { λ _. ⌜ ((P : Problem) → P .old .order ≡ order → AllowedSets P (now (allowed .entry))
         → RootWords P (now (workspace .entry)) (now (workspace .exit))) ⌝ }
 {
     let mut rows = 0;
     let mut r = 0;
     while r < order {
-        let word = agreeing[r];
+        let word = allowed[r];
         workspace[r] = word;
         if !bitset::is_empty(word) {
             rows = bitset::with(rows, r);
@@ -86,7 +86,7 @@ pub fn level_word(workspace: &[u64], pairs: usize, row: OldVertex) -> u64
     0
 }
 
-// Whether more than one pair of old vertices in six has an edge; the table has each edge twice.
+// Whether more than one in six of the edge bytes of the old vertices is not null.
 pub fn many_edges(order: usize, edges: &[u8]) -> bool
     requires { ⌜ (length (now edges) ≡ 4096) × (order ≤ 64) ⌝ }
 {

@@ -19,3 +19,4 @@ pub mod Steps
 pub mod Sums
 pub mod WalkTheorems
 pub mod Weight
+pub mod RulesByLabel

@@ -7,3 +7,4 @@ pub mod StepLimit
 pub mod Best
 pub mod Trees
 pub mod Shape
+pub mod RulesByLabel

@@ -13,7 +13,8 @@ use Rattle.search_tree.specs.Rules.{Rules}
 abbrev pub fits : Rules → List ℕ → ℕ → ℕ → ℕ → Bool
 fits R path r v i = eqb (getD path i 0) unmapped || R .consistent i (getD path i 0) r v
 
--- "new parts of its kind, not used on the path, whose link to each partner on the path equals the row's link to that old part"
+-- "new parts of its kind, not used on the path, whose link to each partner on the path equals the row's link to that old part"; since 02, U1 and U4, instead of
+-- "of its kind": that the row may lie on
 unfoldable pub candidate : Rules → List ℕ → ℕ → ℕ → Bool
 candidate R path r v = ltb v (R .values) && R .allowed r v && allBelow (length path) (fits R path r v)
 

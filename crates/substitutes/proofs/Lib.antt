@@ -1,5 +1,5 @@
 pub mod Examples
 pub mod ByLabel
-pub mod SpreadTurn
+pub mod Spread
 pub mod SoundList
 pub mod Agreement

@@ -41,10 +41,12 @@ enum Shape {
         edge_labels: u8,
         density: usize,
     },
-    /// A panel and its changed copy. The seeds below are among those whose walks are long.
+    /// A panel and its changed copy, with the chance of an own edge in percent. The seeds below are
+    /// among those whose walks are long.
     Panel {
         order: usize,
         vertex_labels: u8,
+        holding: usize,
         seed: u64,
     },
     /// Two graphs of 64 vertices and all edges, with so many labels each and none in common: each
@@ -52,7 +54,7 @@ enum Shape {
     Strangers { vertex_labels: u8 },
 }
 
-const WALKS: [Shape; 12] = [
+const WALKS: [Shape; 14] = [
     random(40, 2, 1, 30),
     random(48, 2, 1, 30),
     random(48, 3, 2, 30),
@@ -65,6 +67,8 @@ const WALKS: [Shape; 12] = [
     panel(56, 16, 13),
     panel(64, 20, 0),
     panel(64, 20, 21),
+    holding_panel(56, 10, 30, 3),
+    holding_panel(64, 12, 30, 22),
 ];
 
 const SINGLE_CALLS: [Shape; 5] = [
@@ -104,9 +108,14 @@ const fn random(order: usize, vertex_labels: u8, edge_labels: u8, density: usize
 }
 
 const fn panel(order: usize, vertex_labels: u8, seed: u64) -> Shape {
+    holding_panel(order, vertex_labels, 0, seed)
+}
+
+const fn holding_panel(order: usize, vertex_labels: u8, holding: usize, seed: u64) -> Shape {
     Shape::Panel {
         order,
         vertex_labels,
+        holding,
         seed,
     }
 }
@@ -299,6 +308,7 @@ impl Shape {
                     vertex_labels: (1..=vertex_labels).collect(),
                     edge_labels: (1..=edge_labels).collect(),
                     density,
+                    own: 0,
                 };
                 let mut one = || graph(&mut random, &style, order);
                 Problem {
@@ -310,8 +320,9 @@ impl Shape {
             Shape::Panel {
                 order,
                 vertex_labels,
+                holding,
                 seed,
-            } => panels::problem(&mut Random::new(seed), order, vertex_labels),
+            } => panels::problem(&mut Random::new(seed), order, vertex_labels, holding),
             Shape::Strangers { vertex_labels } => {
                 let substitutes = (0..vertex_labels)
                     .map(|label| [OLD_LABEL, NEW_LABEL].map(|first| first + label));
@@ -360,11 +371,18 @@ impl std::fmt::Display for Shape {
             Shape::Panel {
                 order,
                 vertex_labels,
+                holding,
                 seed,
-            } => write!(
-                f,
-                "{order} vertices, {vertex_labels} + 3 labels, panel seed {seed:2}"
-            ),
+            } => {
+                write!(
+                    f,
+                    "{order} vertices, {vertex_labels} + 3 labels, panel seed {seed:2}"
+                )?;
+                match holding {
+                    0 => Ok(()),
+                    _ => write!(f, ", own edges {holding} %"),
+                }
+            }
             Shape::Strangers { vertex_labels } => write!(
                 f,
                 "{MAX_VERTICES} vertices, {vertex_labels:2} + 1 labels, none in common"

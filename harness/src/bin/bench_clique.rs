@@ -79,7 +79,7 @@ fn alike(order: usize) -> Problem {
 }
 
 fn cut_panel(seed: u64, order: usize, labels: u8) -> Problem {
-    let mut problem = panels::problem(&mut Random::new(seed), order, labels);
+    let mut problem = panels::problem(&mut Random::new(seed), order, labels, 0);
     problem.old = problem.old.first(CLIQUE_VERTICES);
     problem
 }

@@ -15,6 +15,11 @@ use harness::scenarios::{Judge, Kind, KINDS};
 const SEED: u64 = 1;
 const COUNT: usize = 85_000;
 
+/// How often each pair of numbers came, and pairs that have to come: a number, and each that may
+/// stand second.
+type Counts = BTreeMap<(u32, u32), u64>;
+type Wanted<const N: usize> = [(u32, &'static [u32]); N];
+
 enum Task {
     Compare {
         trace: bool,
@@ -109,43 +114,74 @@ fn summarise(judges: &[Judge]) {
     println!("answers  {}", listed(answers));
     let faults = faults(judges);
     for (fault, _) in FAULTS {
-        let of_it = faults.iter().filter(|((number, _), _)| *number == fault);
-        let beside = of_it.map(|(&(_, beside), &times)| (beside, times));
-        println!("{fault} with  {}", listed(beside));
+        println!("{fault} with  {}", listed(second_of(fault, &faults)));
     }
+    let own_edges = own_edges(judges);
+    for (number, _) in OWN_EDGES {
+        let without = listed(second_of(number, &own_edges));
+        println!("{number} for own edges, without these  {without}");
+    }
+}
+
+/// The second numbers of the pairs that begin with `first`.
+fn second_of(first: u32, counts: &Counts) -> impl Iterator<Item = (u32, u64)> + '_ {
+    let of_it = counts
+        .iter()
+        .filter(move |((number, _), _)| *number == first);
+    of_it.map(|(&(_, second), &times)| (second, times))
 }
 
 /// The faults of a list, and too many old vertices for clique branching. Each with what else may be
 /// wrong with such a call: nothing (0), something of a graph, which comes before it, or each of the
 /// faults that come before it or after it.
-const FAULTS: [(u32, &[u32]); 3] = [
+const FAULTS: Wanted<3> = [
     (23, BESIDE_LIST),
     (24, BESIDE_LIST),
     (25, &[0, 1, 2, 5, 9, 13, 23, 24]),
 ];
 const BESIDE_LIST: &[u32] = &[0, 1, 2, 5, 9, 13, 14, 15, 16, 17, 18, 19, 20, 21, 22, 25];
 
+/// What a call is refused with for own edges alone: a checkpoint out of shape, a row of a mapping
+/// named twice. Each with what the call may answer without any own edges: nothing (0), or one of
+/// the faults that come after it.
+const OWN_EDGES: Wanted<2> = [(14, &[0, 16]), (22, &[0, 19, 20, 21, 22])];
+
 /// The faults that never came: each of these with each other one, and a search that goes on under
-/// another list, taken and refused.
+/// another list or with other own edges, taken and refused.
 fn missing(judges: &[Judge]) -> Vec<String> {
-    let faults = faults(judges);
-    let pairs = FAULTS
-        .into_iter()
-        .flat_map(|(fault, beside)| beside.iter().map(move |&other| (fault, other)));
-    let never = pairs.filter(|pair| !faults.contains_key(pair));
+    let never = never_came(FAULTS, faults(judges));
     let mut missing: Vec<String> = never.map(|(f, b)| format!("{f} with {b}")).collect();
-    let relisted = KINDS.iter().position(|kind| kind.name == "relisted");
-    let answers = relisted.map(|number| &judges[number].answers);
-    for number in [0, 14] {
-        if answers.is_none_or(|answers| !answers.contains_key(&number)) {
-            missing.push(format!("relisted with {number}"));
+    let never = never_came(OWN_EDGES, own_edges(judges));
+    missing.extend(never.map(|(number, other)| format!("{number}, without own edges {other}")));
+    for name in ["relisted", "rewired"] {
+        let kind = KINDS.iter().position(|kind| kind.name == name);
+        let answers = kind.map(|kind| &judges[kind].answers);
+        for number in [0, 14] {
+            if answers.is_none_or(|answers| !answers.contains_key(&number)) {
+                missing.push(format!("{name} with {number}"));
+            }
         }
     }
     missing
 }
 
-fn faults(judges: &[Judge]) -> BTreeMap<(u32, u32), u64> {
+/// Those of the pairs that are not among `counts`.
+fn never_came<const N: usize>(
+    wanted: Wanted<N>,
+    counts: Counts,
+) -> impl Iterator<Item = (u32, u32)> {
+    let pairs = wanted
+        .into_iter()
+        .flat_map(|(first, second)| second.iter().map(move |&second| (first, second)));
+    pairs.filter(move |pair| !counts.contains_key(pair))
+}
+
+fn faults(judges: &[Judge]) -> Counts {
     sums(judges.iter().map(|judge| &judge.faults))
+}
+
+fn own_edges(judges: &[Judge]) -> Counts {
+    sums(judges.iter().map(|judge| &judge.own_edges))
 }
 
 fn sums<'a, K: Copy + Ord + 'a>(

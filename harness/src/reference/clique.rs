@@ -7,7 +7,8 @@ const MAX_OLD_VERTICES: usize = 8;
 /// A vertex of the association graph: an old vertex and a new one.
 type Pair = (usize, usize);
 
-/// Document 004's graph, with 01's condition that it lacks: only pairs whose labels agree are in it.
+/// Document 004's graph, with the conditions that it lacks: only pairs whose labels agree (01) and
+/// whose own edges agree (02, U4) are in it.
 struct Association {
     /// For each old vertex the pairs that it is in, by rising new vertex: 004's row-cliques.
     rows: Vec<Vec<Pair>>,
@@ -25,10 +26,10 @@ impl Association {
         let joined =
             |&(a, v): &Pair, &(b, w): &Pair| a != b && v != w && old.edge(a, b) == new.edge(v, w);
         let beside = |pair| pairs.iter().map(|other| joined(pair, other)).collect();
-        let labelled = |&(u, v): &Pair| problem.labels_agree(u, v);
+        let alike = |&(u, v): &Pair| problem.vertices_agree(u, v);
         Association {
             rows: (0..old.order())
-                .map(|u| row(u).filter(labelled).collect())
+                .map(|u| row(u).filter(alike).collect())
                 .collect(),
             adjacent: pairs.iter().map(beside).collect(),
             columns,

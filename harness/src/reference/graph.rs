@@ -7,7 +7,7 @@ pub const MAX_VERTICES: usize = 64;
 #[derive(Clone, Debug, Default, PartialEq, Eq)]
 pub struct Graph {
     labels: Vec<u8>,
-    /// The label of the edge of a and b at `edges[a][b]` for b < a; 0 for the null edge.
+    /// The label of the edge of a and b at `edges[a][b]` for b <= a; 0 for the null edge.
     edges: Vec<Vec<u8>>,
 }
 
@@ -29,7 +29,7 @@ impl Graph {
         }
     }
 
-    /// All vertices, then the edges with a < b by rising a, then rising b, then the end.
+    /// All vertices, then the edges with a <= b by rising a, then rising b, then the end.
     pub fn save(&self) -> Vec<u8> {
         let vertices = self.labels.iter().flat_map(|&label| [1, label]);
         let edges = self
@@ -38,9 +38,9 @@ impl Graph {
         vertices.chain(edges).chain([0]).collect()
     }
 
-    /// The edges that are not null: a < b and the label, by rising a, then rising b.
+    /// The edges that are not null: a <= b and the label, by rising a, then rising b.
     pub fn edges(&self) -> impl Iterator<Item = (usize, usize, u8)> + '_ {
-        let pairs = (0..self.order()).flat_map(|a| (a + 1..self.order()).map(move |b| (a, b)));
+        let pairs = (0..self.order()).flat_map(|a| (a..self.order()).map(move |b| (a, b)));
         pairs
             .map(|(a, b)| (a, b, self.edge(a, b)))
             .filter(|&(_, _, label)| label != 0)
@@ -53,17 +53,14 @@ impl Graph {
         if self.order() == MAX_VERTICES {
             return Err(Reason::TooManyVertices);
         }
-        self.edges.push(vec![0; self.order()]);
         self.labels.push(label);
+        self.edges.push(vec![0; self.order()]);
         Ok(())
     }
 
     pub fn add_edge(&mut self, a: usize, b: usize, label: u8) -> Result<(), Reason> {
         if a.max(b) >= self.order() {
             return Err(Reason::VertexNotGiven);
-        }
-        if a == b {
-            return Err(Reason::EdgeToItself);
         }
         if label == 0 {
             return Err(Reason::EdgeLabelZero);
@@ -73,6 +70,15 @@ impl Graph {
         }
         self.edges[a.max(b)][a.min(b)] = label;
         Ok(())
+    }
+
+    /// The same graph, but for the own edges: `own` says the label of each, from its vertex and the
+    /// label that it had, 0 for none.
+    pub fn with_own_edges(mut self, mut own: impl FnMut(usize, u8) -> u8) -> Graph {
+        for vertex in 0..self.order() {
+            self.edges[vertex][vertex] = own(vertex, self.own_edge(vertex));
+        }
+        self
     }
 
     /// The graph on the first vertices, so many of them or all.
@@ -92,9 +98,13 @@ impl Graph {
         self.labels[vertex]
     }
 
-    /// Of two different vertices.
     pub fn edge(&self, a: usize, b: usize) -> u8 {
         self.edges[a.max(b)][a.min(b)]
+    }
+
+    /// A vertex's edge with itself (02, U4).
+    pub fn own_edge(&self, vertex: usize) -> u8 {
+        self.edge(vertex, vertex)
     }
 }
 
@@ -119,5 +129,15 @@ impl Problem {
     pub fn labels_agree(&self, row: usize, vertex: usize) -> bool {
         let (old, new) = (self.old.label(row), self.new.label(vertex));
         old == new || self.substitutes.list(old, new)
+    }
+
+    /// Of an old vertex and a new one; 02, U4: "paired parts need equal own links".
+    pub fn own_edges_agree(&self, row: usize, vertex: usize) -> bool {
+        self.old.own_edge(row) == self.new.own_edge(vertex)
+    }
+
+    /// Nothing of the two vertices alone is against their being a pair.
+    pub fn vertices_agree(&self, row: usize, vertex: usize) -> bool {
+        self.labels_agree(row, vertex) && self.own_edges_agree(row, vertex)
     }
 }

@@ -49,6 +49,9 @@ fn check_row(
     if !problem.labels_agree(row, vertex) {
         return Err(Refusal::at(Reason::LabelsDiffer, row));
     }
+    if !problem.own_edges_agree(row, vertex) {
+        return Err(Refusal::against(Reason::EdgesDiffer, row, row));
+    }
     for (earlier, entry) in before.iter().enumerate() {
         let Some(other) = *entry else { continue };
         if other == vertex {

@@ -15,7 +15,7 @@ pub struct Node<'a> {
 impl<'a> Node<'a> {
     pub fn root(problem: &'a Problem) -> Node<'a> {
         let Problem { old, new, .. } = problem;
-        let alike = |row| (0..new.order()).filter(move |&v| problem.labels_agree(row, v));
+        let alike = |row| (0..new.order()).filter(move |&v| problem.vertices_agree(row, v));
         Node {
             problem,
             path: Vec::new(),

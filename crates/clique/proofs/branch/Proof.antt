@@ -22,7 +22,7 @@ begin c = c .before .before .before .before
 
 -- the problem that is asked about
 abbrev asked : tie.After-enum-told → Problem
-asked c = let a = begin c .args in lent (a .t1) (a .t2) (a .edges) (a .substitutes .now)
+asked c = let a = begin c .args in lent (a .t1) (a .labels) (a .edges) (a .substitutes .now)
 
 -- where `check_problem` says `Sound`, the two graphs and the list pass
 told-passed : (c : tie.After-enum-told) → problemAnswer (asked c) ≡ passed
@@ -31,8 +31,8 @@ told-passed c = sym (c .before .before .check-problem .ensures) ∙ ap problemAn
 told-sound : (c : tie.After-enum-told) → SoundProblem (asked c)
 told-sound c = passes-problem (asked c) (told-passed c)
 
-abbrev told : tie.After-agreeing → tie.After-enum-told
-told c = c .before .before .before .before
+abbrev told : tie.After-allowed-sets → tie.After-enum-told
+told c = c .before .before
 
 check-problem-requires : tie.Need-check-problem-requires
 check-problem-requires c κs = search needs
@@ -52,21 +52,15 @@ returns c =
     let a = begin (c .before) .args in
     simp (told-passed (c .before), lt-leb (getD (a .t1) 0 0) 8 (omega (arith, c .if1 .taken)))
 
-array-copy-out-agreeing : tie.Need-array-copy-out-agreeing
-array-copy-out-agreeing c = search needs
-
-array-copy-out-agreeing-2 : tie.Need-array-copy-out-agreeing-2
-array-copy-out-agreeing-2 c = search needs
-
-agreeing-requires : tie.Need-agreeing-requires
-agreeing-requires c κs = search needs
+allowed-sets-requires : tie.Need-allowed-sets-requires
+allowed-sets-requires c κs = search needs
 
 branch-requires : tie.Need-branch-requires
 branch-requires c κs =
     let made = c .before in
     let a = begin (told made) .args in
-    lent-small (a .t1) (a .t2) (a .edges) (a .substitutes .now) (told-sound (told made)) (made .agreeing .ensures)
-    (omega (arith, made .before .before .before .if1 .left))
+    lent-small (a .t1) (a .labels) (a .edges) (a .substitutes .now) (told-sound (told made)) (made .allowed-sets .ensures)
+    (omega (arith, made .before .if1 .left))
 
 answered-requires : tie.Need-answered-requires
 answered-requires c κs = search needs
@@ -82,9 +76,9 @@ unfolding cliqueCall cliqueAnswer
 returns-3 c =
     let made = c .before .before .before in
     let a = begin (told made) .args in
-    let same = lent-branch (a .t1) (a .t2) (a .edges) (a .substitutes .now) (told-sound (told made)) (made .agreeing .ensures) (a .minimum) in
+    let same = lent-branch (a .t1) (a .labels) (a .edges) (a .substitutes .now) (told-sound (told made)) (made .allowed-sets .ensures) (a .minimum) in
     c .answered .ensures (a .minimum) (branch (asked (told made)) (a .minimum)) (c .before .branch .ensures ∙ ap (incumbentAs (a .minimum)) same)
-    ∙ simp (told-passed (told made), le-leb (getD (a .t1) 0 0) 8 (omega (arith, made .before .before .before .if1 .left)))
+    ∙ simp (told-passed (told made), le-leb (getD (a .t1) 0 0) 8 (omega (arith, made .before .if1 .left)))
 
 pub branch-spec : {M : Type 1} → statement M
 branch-spec =
@@ -95,9 +89,7 @@ branch-spec =
     enum-told
     array-read-if1
     returns
-    array-copy-out-agreeing
-    array-copy-out-agreeing-2
-    agreeing-requires
+    allowed-sets-requires
     branch-requires
     answered-requires
     returns-2

@@ -6,7 +6,7 @@ use lib.ListN.{length, length-map}
 use borrow.Author.Needs.{needs}
 use Rattle.problem.specs.Problem.{Problem}
 use Rattle.problem.specs.Lent.{lent}
-use Rattle.problem.proofs.VertexSets.{agreeing-vertices}
+use Rattle.problem.proofs.VertexSets.{allowing-allowed}
 use Rattle.search_tree.specs.Search.{searchOf}
 use Rattle.checkpoint.specs.Checkpoints.{stateOf}
 use Rattle.search.specs.Call.{visits}
@@ -20,17 +20,17 @@ use Rattle.search.proofs.advance.Tie as tie
 
 -- the problem that is asked about
 abbrev asked : tie.Start → Problem
-asked s = lent (s .args .t1) (s .args .t2) (s .args .t3) (s .args .substitutes .now)
+asked s = lent (s .args .t1) (s .args .labels) (s .args .t3) (s .args .substitutes .now)
 
 -- the way back from each call to the one before it
 abbrev at-entry : tie.After-fill-masks → tie.Start
 at-entry c = c .before .before .before .before .before .before
 
-abbrev at-agreeing : tie.After-root-words → tie.After-agreeing
-at-agreeing c = c .before .before .before
+abbrev at-allowed : tie.After-root-words → tie.After-allowed-sets
+at-allowed c = c .before .before .before
 
 abbrev at-masks : tie.After-root-words → tie.After-fill-masks
-at-masks c = at-agreeing c .before .before .before .before
+at-masks c = at-allowed c .before .before
 
 abbrev at-root : tie.After-all-first → tie.After-root-words
 at-root c = c .before .before .before
@@ -83,18 +83,12 @@ fill-masks-requires c κs =
     let sound = c .before .before .before .before .before .pre .0 in
     (sound .new-sound .edges-length, refl, sound .new-sound .order-max)
 
-array-copy-out-agreeing : tie.Need-array-copy-out-agreeing
-array-copy-out-agreeing c = search needs
-
-array-copy-out-agreeing-2 : tie.Need-array-copy-out-agreeing-2
-array-copy-out-agreeing-2 c = search needs
-
-agreeing-requires : tie.Need-agreeing-requires
-agreeing-requires c κs = search needs
+allowed-sets-requires : tie.Need-allowed-sets-requires
+allowed-sets-requires c κs = search needs
 
 root-words-requires : tie.Need-root-words-requires
 root-words-requires c κs =
-    let pre = at-entry (c .before .before .before .before .before .before) .pre in
+    let pre = at-entry (c .before .before .before .before) .pre in
     (pre .0 .old-sound .order-max, omega (arith, pre .1 .1 .0))
 
 all-first-requires : tie.Need-all-first-requires
@@ -126,7 +120,7 @@ started c =
     let s = begin c in
     c .start .ensures (asked s) (setting (at-masks root)) (s .pre .1 .0)
     (root-words (asked s) (s .pre .0)
-    (root .root-words .ensures (asked s) refl (agreeing-vertices (asked s) (s .pre .0) (at-agreeing root .agreeing .ensures))) (s .args .checkpoint .path))
+    (root .root-words .ensures (asked s) refl (allowing-allowed (s .args .t1) (s .args .labels) (s .args .t3) (s .args .substitutes .now) (s .pre .0) (at-allowed root .allowed-sets .ensures))) (s .args .checkpoint .path))
 
 slice-aggregate-run : tie.Need-slice-aggregate-run
 slice-aggregate-run c = sym (at-masks (at-root (at-later (c .before .before .before))) .fill-masks .ensures .words)
@@ -198,9 +192,7 @@ advance-spec =
     array-copy-out-fill-masks
     slice-aggregate-fill-masks
     fill-masks-requires
-    array-copy-out-agreeing
-    array-copy-out-agreeing-2
-    agreeing-requires
+    allowed-sets-requires
     root-words-requires
     all-first-requires
     slice-aggregate-start

@@ -2,7 +2,7 @@
 -- Assumes nothing.
 use borrow.Author.Needs.{needs}
 use native.Mathlib.Omega.{arith}
-use Rattle.substitutes.proofs.SpreadTurn.{spread-joined}
+use Rattle.substitutes.proofs.Spread.{spread-joined}
 use Rattle.substitutes.proofs.agreeing.Statement.{statement}
 use Rattle.substitutes.proofs.agreeing.Tie as tie
 

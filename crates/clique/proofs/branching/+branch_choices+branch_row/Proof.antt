@@ -158,7 +158,7 @@ branch-choices-branch-choices-requires t c κs =
 branch-choices-returns : (t : ℕ) → branch-choices-lts.Need-returns (choices-callees t) (branch-choices-at t) branch-choices.Post
 branch-choices-returns t c minimum incumbent e =
     let s = c .before .before .before .before in
-    let R = lentRules (s .args .orders) (s .args .agreeing .now) (s .args .edges) in
+    let R = lentRules (s .args .orders) (s .args .allowed .now) (s .args .edges) in
     c .branch-row .ensures minimum incumbent e
     ∙ ap (incumbentAs minimum)
     (no-candidate R minimum (s .args .path) (s .args .depth) incumbent (omega (arith, s .pre .1 .0 .old-max, s .pre .1 .1)) _ (s .args .candidates)
@@ -168,7 +168,7 @@ branch-choices-returns-2 : (t : ℕ) → branch-choices-lts.Need-returns-2 (choi
 branch-choices-returns-2 t c minimum incumbent e =
     let k = c .before .before .before .before in
     let s = k .before .before .before in
-    let R = lentRules (s .args .orders) (s .args .agreeing .now) (s .args .edges) in
+    let R = lentRules (s .args .orders) (s .args .allowed .now) (s .args .edges) in
     c .branch-choices .ensures minimum _ (c .before .before .branch-row2 .ensures minimum incumbent e)
     ∙ ap (incumbentAs minimum)
     (least-candidate R minimum (s .args .path) (s .args .depth) incumbent (omega (arith, s .pre .1 .0 .old-max, s .pre .1 .1)) _ (s .args .candidates)
@@ -183,7 +183,7 @@ branch-row-keep-larger-requires t c κs = search needs
 branch-row-returns : (t : ℕ) → branch-row-lts.Need-returns (row-callees t) (branch-row-at t) branch-row.Post
 branch-row-returns t c minimum incumbent e =
     let s = c .before .before in
-    let R = lentRules (s .args .t1) (s .args .agreeing .now) (s .args .edges) in
+    let R = lentRules (s .args .t1) (s .args .allowed .now) (s .args .edges) in
     c .keep-larger .ensures minimum incumbent e
     ∙ ap (incumbentAs minimum) (row-decided R minimum (s .args .path) (s .args .depth) incumbent (c .before .if1 .taken))
 
@@ -199,13 +199,13 @@ branch-row-branch-choices-requires t c κs =
 branch-row-returns-2 : (t : ℕ) → branch-row-lts.Need-returns-2 (row-callees t) (branch-row-at t) branch-row.Post
 branch-row-returns-2 t c minimum incumbent e =
     let s = c .before .before .before in
-    let R = lentRules (s .args .t1) (s .args .agreeing .now) (s .args .edges) in
+    let R = lentRules (s .args .t1) (s .args .allowed .now) (s .args .edges) in
     let p = s .pre .1 in
     c .branch-choices .ensures minimum incumbent e
     ∙ ap (incumbentAs minimum)
     (row-open R minimum (s .args .path) (s .args .depth) incumbent (omega (arith, p .0 .old-max, p .1, c .before .before .if1 .left))
     (omega (arith, p .1, c .before .before .if1 .left)) (p .0 .new-max)
-    (c .before .candidates .ensures ∙ lent-candidates (s .args .agreeing .now) (s .args .edges) (s .args .path) (s .args .depth) (s .args .t1) (p .0)
+    (c .before .candidates .ensures ∙ lent-candidates (s .args .allowed .now) (s .args .edges) (s .args .path) (s .args .depth) (s .args .t1) (p .0)
     (omega (arith, p .1, c .before .before .if1 .left)) (omega (arith, p .0 .old-max, p .1))))
 
 pub +branch-choices+branch-row-spec : {M : Type 1} → statement M

@@ -19,7 +19,7 @@ returns : tie.Need-returns
 returns c =
     let a = c .before .args in
     c .branch-row .ensures (a .minimum) none refl
-    ∙ ap (λ (n : ℕ). incumbentAs (a .minimum) (branchRow (lentRules (a .orders) (a .agreeing .now) (a .edges)) (a .minimum) (2 * n) [] none)) (sub-zero _)
+    ∙ ap (λ (n : ℕ). incumbentAs (a .minimum) (branchRow (lentRules (a .orders) (a .allowed .now) (a .edges)) (a .minimum) (2 * n) [] none)) (sub-zero _)
 
 pub branch-spec : {M : Type 1} → statement M
 branch-spec = tie.close (tie.spec branch-row-requires returns)

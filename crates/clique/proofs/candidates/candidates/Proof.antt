@@ -18,10 +18,10 @@ use Rattle.clique.proofs.candidates.candidates.Statement.{statement}
 use Rattle.clique.proofs.candidates.candidates.Tie as tie
 
 abbrev Inv-loop : tie.InvT-loop
-Inv-loop agreeing edges path row r rest₀ fitting₀ rest fitting = GatheredTo rest₀ (λ v. allBelow (row .0) (edgeFits edges path (row .0) v)) rest fitting
+Inv-loop allowed edges path row r rest₀ fitting₀ rest fitting = GatheredTo rest₀ (λ v. allBelow (row .0) (edgeFits edges path (row .0) v)) rest fitting
 
 abbrev μ-loop : tie.MeasureT-loop
-μ-loop agreeing edges path row r rest₀ fitting₀ rest fitting = size rest
+μ-loop allowed edges path row r rest₀ fitting₀ rest fitting = size rest
 
 -- the loop's head, from the vertex found
 abbrev head : tie.After-known-told Inv-loop μ-loop → tie.At-loop Inv-loop μ-loop
@@ -86,7 +86,7 @@ returns c =
     let d = l .before in
     let a = d .before .before .before .args in
     gathered-all _ _ (l .loop .inv) (sym (c .before .before .least-member .ensures) ∙ c .enum-told .given .1)
-    ∙ free-fitting (a .agreeing .now) (a .edges) (a .path) (a .row .0) (d .before .taken .ensures) (d .difference .ensures)
+    ∙ free-fitting (a .allowed .now) (a .edges) (a .path) (a .row .0) (d .before .taken .ensures) (d .difference .ensures)
 
 pub candidates-spec : {M : Type 1} → statement M
 candidates-spec =

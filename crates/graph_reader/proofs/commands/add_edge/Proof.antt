@@ -28,39 +28,27 @@ unfolding judge
 returns-3 c =
     let a = c .before .before .before .args in
     let given = lt-leb (a .order) (max (a .a) (a .b)) (omega arith) in
-    let self = eq-eqb _ _ (c .if3 .taken) in
-    λ labels. record { verdict = simp (given, self); labels-after = simp (given, self); edges-after = simp (given, self) }
+    let null = eq-eqb _ _ (c .if3 .taken) in
+    λ labels. record { verdict = simp (given, null); labels-after = simp (given, null); edges-after = simp (given, null) }
+
+mul-if4 : tie.Need-mul-if4
+mul-if4 c = search needs
+
+add-if4 : tie.Need-add-if4
+add-if4 c = search needs
+
+slice-read-if4 : tie.Need-slice-read-if4
+slice-read-if4 c = search needs
 
 returns-4 : tie.Need-returns-4
 unfolding judge
 returns-4 c =
-    let e = c .before in
-    let a = e .before .before .before .args in
-    let given = lt-leb (a .order) (max (a .a) (a .b)) (omega arith) in
-    let apart = ne-eqb _ _ (e .if3 .left) in
-    let null = eq-eqb _ _ (c .if4 .taken) in
-    λ labels. record { verdict = simp (given, apart, null); labels-after = simp (given, apart, null); edges-after = simp (given, apart, null) }
-
-mul-if5 : tie.Need-mul-if5
-mul-if5 c = search needs
-
-add-if5 : tie.Need-add-if5
-add-if5 c = search needs
-
-slice-read-if5 : tie.Need-slice-read-if5
-slice-read-if5 c = search needs
-
-returns-5 : tie.Need-returns-5
-unfolding judge
-returns-5 c =
     let d = c .before .before in
-    let e = d .before in
-    let a = e .before .before .before .args in
+    let a = d .before .before .before .args in
     let given = lt-leb (a .order) (max (a .a) (a .b)) (omega arith) in
-    let apart = ne-eqb _ _ (e .if3 .left) in
-    let some = ne-eqb _ _ (d .if4 .left) in
-    let repeated = ne-eqb _ _ (c .if5 .taken) in
-    λ labels. record { verdict = simp (given, apart, some, repeated); labels-after = simp (given, apart, some, repeated); edges-after = simp (given, apart, some, repeated) }
+    let some = ne-eqb _ _ (d .if3 .left) in
+    let repeated = ne-eqb _ _ (c .if4 .taken) in
+    λ labels. record { verdict = simp (given, some, repeated); labels-after = simp (given, some, repeated); edges-after = simp (given, some, repeated) }
 
 mul-edges : tie.Need-mul-edges
 mul-edges c = search needs
@@ -83,17 +71,15 @@ slice-write-edges-2 c = simp length-set (omega arith)
 same-length : tie.Need-same-length
 same-length c = search needs
 
-returns-6 : tie.Need-returns-6
+returns-5 : tie.Need-returns-5
 unfolding judge
-returns-6 c =
+returns-5 c =
     let d = c .before .before in
-    let e = d .before in
-    let a = e .before .before .before .args in
+    let a = d .before .before .before .args in
     let given = lt-leb (a .order) (max (a .a) (a .b)) (omega arith) in
-    let apart = ne-eqb _ _ (e .if3 .left) in
-    let some = ne-eqb _ _ (d .if4 .left) in
-    let new = eq-eqb _ _ (c .if5 .left) in
-    λ labels. record { verdict = simp (given, apart, some, new); labels-after = simp (given, apart, some, new); edges-after = simp (given, apart, some, new) }
+    let some = ne-eqb _ _ (d .if3 .left) in
+    let new = eq-eqb _ _ (c .if4 .left) in
+    λ labels. record { verdict = simp (given, some, new); labels-after = simp (given, some, new); edges-after = simp (given, some, new) }
 
 pub add-edge-spec : {M : Type 1} → statement M
 add-edge-spec =
@@ -102,11 +88,10 @@ add-edge-spec =
     returns
     returns-2
     returns-3
+    mul-if4
+    add-if4
+    slice-read-if4
     returns-4
-    mul-if5
-    add-if5
-    slice-read-if5
-    returns-5
     mul-edges
     add-edges
     slice-write-edges
@@ -114,4 +99,4 @@ add-edge-spec =
     add-edges-2
     slice-write-edges-2
     same-length
-    returns-6)
+    returns-5)

@@ -21,7 +21,7 @@ count-edges-requires : tie.Need-count-edges-requires
 count-edges-requires c κs = search needs
 
 -- the count is small
-few : (c : tie.After-count-edges) → c .count-edges .result ≤ 2016
+few : (c : tie.After-count-edges) → c .count-edges .result ≤ 2080
 few c =
     let start = c .before .before .before .before in
     omega (arith, c .count-edges .ensures, edgeCount-max (graph (start .args .order) [] (start .args .edges .now)) (start .pre .2))

@@ -42,20 +42,42 @@ returns-3 c =
       sym (e .compare-vertices .ensures) ∙ not-true _ (c .if3 .taken),
     )
 
-first-clash-requires : tie.Need-first-clash-requires
-first-clash-requires c κs =
-    let s = c .before .before .before .before .before .before in
-    let below : getD (s .args .mapping .now) (s .args .v .0) 0 < 64 = omega (arith, c .before .before .if2 .left, s .pre .0 .1) in
-    ((s .pre .0 .0, s .pre .1 .0, s .pre .1 .1), (below, s .pre .1 .2))
+-- the row's image, once it is known to be a new vertex, is a place of the tables
+below : (e : tie.Else2) → let s = e .before .before .before .before in getD (s .args .mapping .now) (s .args .v .0) 0 < 64
+below e = let s = e .before .before .before .before in omega (arith, e .if2 .left, s .pre .0 .1)
+
+compare-edges-requires : tie.Need-compare-edges-requires
+compare-edges-requires c κs =
+    let e = c .before .before in
+    let s = e .before .before .before .before in
+    let row : s .args .v .0 < 64 = omega (arith, s .pre .1 .0, s .pre .1 .1) in (s .pre .0 .0, row, row, below e, below e)
 
 returns-4 : tie.Need-returns-4
 unfolding lentRow
 returns-4 c =
-    let e = c .before .before in
+    let v = c .before .before .before in
     simp (
-      ne-eqb _ _ (e .before .before .if1 .left),
-      lt-ltb _ _ (e .before .if2 .left),
-      sym (e .compare-vertices .ensures) ∙ not-false _ (c .before .if3 .left),
+      ne-eqb _ _ (v .before .before .if1 .left),
+      lt-ltb _ _ (v .before .if2 .left),
+      sym (v .compare-vertices .ensures) ∙ not-false _ (c .before .before .if3 .left),
+      sym (c .before .compare-edges .ensures) ∙ not-true _ (c .if4 .taken),
+    )
+
+first-clash-requires : tie.Need-first-clash-requires
+first-clash-requires c κs =
+    let e = c .before .before .before .before in
+    let s = e .before .before .before .before in ((s .pre .0 .0, s .pre .1 .0, s .pre .1 .1), (below e, s .pre .1 .2))
+
+returns-5 : tie.Need-returns-5
+unfolding lentRow
+returns-5 c =
+    let own = c .before .before in
+    let v = own .before .before in
+    simp (
+      ne-eqb _ _ (v .before .before .if1 .left),
+      lt-ltb _ _ (v .before .if2 .left),
+      sym (v .compare-vertices .ensures) ∙ not-false _ (own .before .if3 .left),
+      sym (own .compare-edges .ensures) ∙ not-false _ (c .before .if4 .left),
     )
     (c .first-clash .ensures)
 
@@ -70,5 +92,7 @@ row-fault-spec =
     returns-2
     compare-vertices-requires
     returns-3
+    compare-edges-requires
+    returns-4
     first-clash-requires
-    returns-4)
+    returns-5)

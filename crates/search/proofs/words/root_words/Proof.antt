@@ -8,19 +8,18 @@ use lib.ListN.{length, length-set}
 use borrow.Author.Needs.{needs}
 use borrow.Author.Tests.{not-true, not-false}
 use Rattle.problem.specs.Problem.{Problem}
-use Rattle.problem.specs.VertexSets.{VertexSets}
-use Rattle.problem.proofs.VertexSets.{vertex-allowed}
+use Rattle.problem.specs.VertexSets.{AllowedSets}
 use Rattle.search.proofs.RootTurn.{RootTo, root-none, root-more, root-skip, root-all}
 use Rattle.search.proofs.words.root_words.Statement.{statement}
 use Rattle.search.proofs.words.root_words.Tie as tie
 
 abbrev Inv-loop : tie.InvT-loop
-Inv-loop order agreeing workspace₀ rows₀ r₀ workspace rows r =
+Inv-loop order allowed workspace₀ rows₀ r₀ workspace rows r =
     (r ≤ order) × (length workspace ≡ length workspace₀)
-    × ((P : Problem) → P .old .order ≡ order → VertexSets P agreeing → RootTo P workspace₀ workspace r rows)
+    × ((P : Problem) → P .old .order ≡ order → AllowedSets P allowed → RootTo P workspace₀ workspace r rows)
 
 abbrev μ-loop : tie.MeasureT-loop
-μ-loop order agreeing workspace₀ rows₀ r₀ workspace rows r = order - r
+μ-loop order allowed workspace₀ rows₀ r₀ workspace rows r = order - r
 
 loop-holds : tie.Need-loop-holds Inv-loop μ-loop
 loop-holds c = (search needs, refl, λ P e s. root-none P (c .before .args .workspace .now))
@@ -59,10 +58,10 @@ loop-again c =
       ⊎-elim
           (λ w P e s.
           rw (w .2, w .1 .ensures)
-          (root-more P ws (l .inv .2 P e s) (omega arith) (omega arith) (vertex-allowed P s (l .r) (omega arith)) (sym tested ∙ not-true _ (w .0 .taken))))
+          (root-more P ws (l .inv .2 P e s) (omega arith) (omega arith) (s .word (l .r) (omega arith)) (sym tested ∙ not-true _ (w .0 .taken))))
           (λ w P e s.
           rw (w .1)
-          (root-skip P ws (l .inv .2 P e s) (omega arith) (omega arith) (vertex-allowed P s (l .r) (omega arith)) (sym tested ∙ not-false _ (w .0 .left))))
+          (root-skip P ws (l .inv .2 P e s) (omega arith) (omega arith) (s .word (l .r) (omega arith)) (sym tested ∙ not-false _ (w .0 .left))))
           (c .if1 .came),
     )
 
