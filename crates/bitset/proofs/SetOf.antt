@@ -100,6 +100,10 @@ meetOf-and {a} {b} ha hb = setOf-and 64 (member a) (member b) ∙ ap₂ bitAnd (
 pub meetOf-setOf : (k : ℕ) (t u : ℕ → Bool) → k ≤ 64 → meetOf (setOf k t) (setOf k u) ≡ setOf k (λ i. t i && u i)
 meetOf-setOf k t u h = meetOf-and (setOf-word k t h) (setOf-word k u h) ∙ sym (setOf-and k t u)
 
+-- The empty set meets every other in nothing.
+pub meet-empty : (s : ℕ) → meetOf 0 s ≡ 0
+meet-empty s = setOf-congr 64 _ _ (λ i h. rw (member-zero i) refl) ∙ setOf-member 64 (pow-pos 64)
+
 -- The union of two words is their `|`.
 pub unionOf-or : {a b : ℕ} → a < 2 ^ 64 → b < 2 ^ 64 → unionOf a b ≡ bitOr a b
 unionOf-or {a} {b} ha hb =

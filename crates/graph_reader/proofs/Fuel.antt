@@ -27,12 +27,12 @@ unfolding judge
 rest-shorter g [] g′ e = let z : _≡_ {A = ℕ} 0 1 = cc in omega arith
 rest-shorter g (x ∷ xs) g′ e = simp length-drop (omega (arith, grows-width g (decode (x ∷ xs)) g′ e))
 
--- two ways to go on that agree on the graph a command makes
-same-onward : (f f′ : Graph → Reading) (e : Reading) (r : ℕ → Reading) (j : Verdict)
-    → ((g : Graph) → j ≡ grows g → f g ≡ f′ g) → onVerdict f e r j ≡ onVerdict f′ e r j
-same-onward f f′ e r (grows g) h = h g refl
-same-onward f f′ e r ends h = refl
-same-onward f f′ e r (faulty number) h = refl
+-- Two ways to go on that agree on the graph a command makes, and at the end, agree.
+pub same-onward : (f f′ : Graph → Reading) (e e′ : Reading) (r : ℕ → Reading) (j : Verdict)
+    → ((g : Graph) → j ≡ grows g → f g ≡ f′ g) → e ≡ e′ → onVerdict f e r j ≡ onVerdict f′ e′ r j
+same-onward f f′ e e′ r (grows g) h q = h g refl
+same-onward f f′ e e′ r ends h q = q
+same-onward f f′ e e′ r (faulty number) h q = refl
 
 -- Any two fuels above the number of bytes left give the same reading.
 pub fuel-enough : (fuel fuel′ : ℕ) (g : Graph) (at : ℕ) (rest : List ℕ) → length rest < fuel → length rest < fuel′
@@ -41,8 +41,8 @@ unfolding readFrom
 fuel-enough zero fuel′ g at rest h h′ = absurd (omega arith)
 fuel-enough (suc fuel) zero g at rest h h′ = absurd (omega arith)
 fuel-enough (suc fuel) (suc fuel′) g at rest h h′ =
-    same-onward _ _ _ _ (judge g (decode rest)) (λ g′ e. fuel-enough fuel fuel′ g′ _ _
-    (omega (arith, rest-shorter g rest g′ e)) (omega (arith, rest-shorter g rest g′ e)))
+    same-onward _ _ _ _ _ (judge g (decode rest)) (λ g′ e. fuel-enough fuel fuel′ g′ _ _
+    (omega (arith, rest-shorter g rest g′ e)) (omega (arith, rest-shorter g rest g′ e))) refl
 
 -- reading on from the place `at`, with the graph of the commands before it
 unfoldable pub readAt : Graph → ℕ → List ℕ → Reading
@@ -58,5 +58,5 @@ pub read-step : (g : Graph) (at : ℕ) (rest : List ℕ) → readAt g at rest �
 unfolding readAt readFrom
 read-step g at rest =
     rw (add-one (length rest))
-    (same-onward _ _ _ _ (judge g (decode rest)) (λ g′ e. fuel-enough (length rest) (length (drop (width (decode rest)) rest) + 1) g′ _ _
-    (rest-shorter g rest g′ e) (omega arith)))
+    (same-onward _ _ _ _ _ (judge g (decode rest)) (λ g′ e. fuel-enough (length rest) (length (drop (width (decode rest)) rest) + 1) g′ _ _
+    (rest-shorter g rest g′ e) (omega arith)) refl)

@@ -20,8 +20,8 @@ use Rattle.graph.specs.Graph.{Graph, Sound, edge, emptyGraph}
 use Rattle.graph_reader.specs.declared.commands.Command.{Command}
 use Rattle.graph_reader.specs.declared.commands.Command.the-variants.{Vertex, Edge, End, Truncated, Unknown}
 use Rattle.graph_reader.specs.Commands.{decode, width}
-use Rattle.graph_reader.specs.Reading.{Verdict, grows, ends, faulty, judge, withVertex, withEdge, Reading, refuseAt, finish, onVerdict, readFrom, reading}
-use Rattle.graph_reader.proofs.Fuel.{readAt, read-step}
+use Rattle.graph_reader.specs.Reading.{Verdict, grows, ends, faulty, judge, withVertex, withEdge, Reading, refuseAt, finish, readFrom, reading}
+use Rattle.graph_reader.proofs.Fuel.{same-onward, readAt, read-step}
 use Rattle.graph_reader.proofs.Judge.{decode-fits}
 use Rattle.graph_reader.proofs.ReadSound.{Pair, new-edge, new-or-old, empty-sound, decode-byte, judge-sound, onVerdict-cases}
 use Rattle.graph_writer.specs.Writing.{listed, rowEdgeCount, edgeCount}
@@ -197,13 +197,6 @@ width-max End = omega arith
 width-max (Vertex x) = omega arith
 width-max (Edge a b x) = omega arith
 
--- two ways to go on that agree on the graph a command makes, and at the end
-same-verdict : (f f′ : Graph → Reading) (e e′ : Reading) (r : ℕ → Reading) (j : Verdict)
-    → ((g : Graph) → j ≡ grows g → f g ≡ f′ g) → e ≡ e′ → onVerdict f e r j ≡ onVerdict f′ e′ r j
-same-verdict f f′ e e′ r (grows g) h q = h g refl
-same-verdict f f′ e e′ r ends h q = q
-same-verdict f f′ e e′ r (faulty number) h q = refl
-
 -- with so many bytes left of the rest
 read-cut : (fuel : ℕ) (g : Graph) (at : ℕ) (rest : List ℕ) (k : ℕ) → Sound g → ((i : ℕ) → getD rest i 0 ≤ 255) → 8452 ≤ used g + k → length rest < fuel
     → readAt g at (take k rest) ≡ readAt g at rest
@@ -213,7 +206,7 @@ read-cut (suc fuel) g at rest k s small room more =
     let w = width (decode rest) in
     read-step g at (take k rest)
     ∙ rw (decode-cut k rest enough)
-    (same-verdict _ _ _ _ _ (judge g (decode rest))
+    (same-onward _ _ _ _ _ (judge g (decode rest))
     (λ g′ e.
     rw (drop-cut k w rest (omega (arith, width-max (decode rest), enough)))
     (read-cut fuel g′ (at + w) (drop w rest) (k - w) (judge-sound g (decode rest) s (decode-byte rest small) g′ e) (λ i. rw getD-drop (small (w + i)))

@@ -8,11 +8,9 @@ use native.Mathlib.Decide.{decLt}
 use native.Mathlib.Omega.{arith}
 use lib.Dec.{ltb, eqb}
 use lib.ListN.{length, getD}
-use lib.Pow.{pow-pos}
 use borrow.Author.Tests.{lt-ltb, le-ltb, ne-eqb}
 use Rattle.bitset.specs.Members.{member, setOf, meetOf}
-use Rattle.bitset.proofs.Membership.{member-zero}
-use Rattle.bitset.proofs.SetOf.{setOf-congr, setOf-member, meetOf-setOf, member-setOf}
+use Rattle.bitset.proofs.SetOf.{setOf-congr, meet-empty, meetOf-setOf, member-setOf}
 use Rattle.graph.specs.Graph.{label}
 use Rattle.substitutes.specs.Substitutes.{listed, agree}
 use Rattle.substitutes.specs.Agreeing.{Agreeing}
@@ -63,10 +61,6 @@ module _ (P : Problem) where
         ∙ member-setOf 64 (λ u. ltb u (P .new .order) && compareVertices P v u) w few
         ∙ ap (λ (b : Bool). b && compareVertices P v w) (lt-ltb w (P .new .order) l)
 
--- What no number is in meets every set in nothing.
-nothing-met : (s : ℕ) → meetOf 0 s ≡ 0
-nothing-met s = setOf-congr 64 _ _ (λ i h. rw (member-zero i) refl) ∙ setOf-member 64 (pow-pos 64)
-
 module _ (labels edges : Tables) {list agreed old new same words : List ℕ} where
   -- The sets by the labels meet those by the diagonals, taken for labels that no list lets differ.
   pub allowing-made : Agreeing (tableAt labels 0) (tableAt labels 1) list agreed → Diagonal (tableAt edges 0) old → Diagonal (tableAt edges 1) new
@@ -83,7 +77,7 @@ module _ (labels edges : Tables) {list agreed old new same words : List ℕ} whe
           rw (a .word v h, s .word v h, e, lt-ltb v (length old) (omega (arith, o .entries)))
           (meetOf-setOf 64 _ _ (omega arith)
           ∙ setOf-congr 64 _ _ (λ w l. rw (lt-ltb w (length new) (omega (arith, n .entries)), own v w h l) refl))
-      both v h false e = rw (a .word v h, e) (nothing-met (getD same v 0))
+      both v h false e = rw (a .word v h, e) (meet-empty (getD same v 0))
 
 module _ (orders : List ℕ) (labels edges : Tables) (list : List ℕ) (s : SoundProblem (lent orders labels edges list)) where
   -- Of a sound problem these are the vertices that an old vertex may lie on.

@@ -11,8 +11,6 @@ use lib.ListN.{length, getD}
 use borrow.Author.Tests.{ne-eqb}
 use Rattle.bitset.specs.Members.{member, meetOf}
 use Rattle.bitset.specs.Count.{countBelow}
-use Rattle.bitset.proofs.Membership.{member-zero}
-use Rattle.bitset.proofs.SetOf.{setOf-lt, member-setOf, no-member}
 use Rattle.bitset.proofs.CountBelow.{countBelow-congr}
 use Rattle.bounded.specs.Below.{sumBelow}
 use Rattle.graph.specs.Graph.{place}
@@ -28,12 +26,6 @@ module _ (ws : List ℕ) (pairs r : ℕ) where
   pub word-closed : member (openSet pairs ws) r ≡ false → levelWord ws pairs r ≡ 0
   unfolding levelWord
   word-closed e = rw e refl
-
--- The empty set meets no other.
-pub meet-empty : (s : ℕ) → meetOf 0 s ≡ 0
-meet-empty s =
-    no-member 64 (setOf-lt 64 (λ i. member 0 i && member s i)) .1
-    (λ i h. member-setOf 64 (λ i. member 0 i && member s i) i h ∙ rw (member-zero i) refl)
 
 -- A row is in the set of an exact level exactly where its word is not empty.
 pub exact-member : {n pairs : ℕ} {ws : List ℕ} → ExactSet n pairs ws → (r : ℕ) → member (openSet pairs ws) r ≡ not (eqb (levelWord ws pairs r) 0)

@@ -12,12 +12,12 @@ use borrow.Author.Tests.{lt-ltb, le-ltb, le-leb, lt-leb, leb-true}
 use Rattle.bitset.specs.Members.{member, meetOf, membersFrom}
 use Rattle.bitset.specs.Count.{size}
 use Rattle.bitset.proofs.Membership.{member-zero}
-use Rattle.bitset.proofs.SetOf.{member-setOf}
+use Rattle.bitset.proofs.SetOf.{member-setOf, meet-empty}
 use Rattle.bitset.proofs.CountBelow.{countBelow-congr, countBelow-zero, countBelow-parts}
 use Rattle.bitset.proofs.MembersFrom.{member-from}
 use Rattle.search.specs.Words.{openSet, metWord, nearWord, farWord, Covers, lostRows, Refined, meetRows, Met, Counted}
 use Rattle.search.specs.declared.words.Kept.{Kept}
-use Rattle.search.proofs.Levels.{word-open, word-closed, meet-empty, same-none, below-same}
+use Rattle.search.proofs.Levels.{word-open, word-closed, same-none, below-same}
 use Rattle.search.proofs.LevelStores.{FilledTo, withSet, level-word, level-member, level-below}
 use Rattle.search.proofs.MetParts.{Parts}
 

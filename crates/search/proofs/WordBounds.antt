@@ -11,7 +11,7 @@ use lib.Seq.{length-take-le}
 use borrow.Author.Tests.{leb-true, eq-eqb, ne-eqb}
 use Rattle.bitset.specs.Members.{member}
 use Rattle.bitset.proofs.Membership.{member-zero}
-use Rattle.bitset.proofs.SetOf.{setOf-lt, no-member}
+use Rattle.bitset.proofs.SetOf.{setOf-lt, no-member, meet-empty}
 use Rattle.bitset.proofs.CountBelow.{countBelow-congr}
 use Rattle.bounded.specs.Below.{sumBelow}
 use Rattle.graph.specs.Graph.{graph, place}
@@ -23,7 +23,7 @@ use Rattle.search_tree.specs.Node.{candidate, candidates, nonEmpty, upperBound,
 use Rattle.search_tree.proofs.Sums.{sumBelow-agree}
 use Rattle.search_tree.proofs.Candidates.{length-extend, nonEmpty-candidates}
 use Rattle.search.specs.Words.{wordOf, Masks, levelWord, ExactSet, metWord, openRows, meetRows, Words}
-use Rattle.search.proofs.Levels.{meet-empty, exact-member, exact-above, count-rows}
+use Rattle.search.proofs.Levels.{exact-member, exact-above, count-rows}
 use Rattle.search.proofs.WordLevels.{size-extend, word-left-out, member-word, met-word}
 
 module _ (P : Problem) (sound : SoundProblem P) where
