@@ -1,6 +1,7 @@
 /* Golfcedar: the largest common subgraph of two labelled graphs, by a proved search that can be stopped and resumed.
  *
- * Link with libc_api.a (`rt staticlib c_api`). Every function here is proved against a definition in crates/c_api/specs/.
+ * Link with libc_api.a (`rt staticlib c_api`). Every function here is proved against a definition: docs/PROMISES.md, "The library
+ * to link", names each.
  *
  * Graphs, substitutes, mappings and checkpoints are plain bytes; README.md has their forms. The caller owns every buffer: nothing is kept after
  * a call returns, nothing is allocated. A pointer with a length of 0 may be any non-null pointer. What is written, buffers and number
@@ -30,6 +31,7 @@
  *    23      substitutes of odd length, or of more than 512 bytes                        0
  *    24      a label 0 among the substitutes                                             0
  *    25      more than eight old vertices, for `golfcedar_clique`                        0
+ *    26      a number of vertices above 64, for `golfcedar_step_limit`                   0
  *
  * A place is an offset: that of the command at fault, of the first byte that cannot stand there, or the length where the end is missing.
  * 6 is no refusal's number, and 10, 11 and 12, of lent tables, are never given. Where two graphs are given, the old one is read first; if
@@ -62,6 +64,8 @@ extern "C" {
 #define GOLFCEDAR_CLIQUE_VERTICES 8
 /* In a mapping: an old vertex that is left out. */
 #define GOLFCEDAR_UNMAPPED 255
+/* From `golfcedar_step_limit`: so many steps or more. */
+#define GOLFCEDAR_STEP_LIMIT_CAP UINT64_MAX
 
 /* Is this a graph? Accepted: *value is its number of vertices. Refused: 1 to 9. */
 uint32_t golfcedar_check_graph(const uint8_t *graph, size_t graph_len, uint64_t *value);
@@ -106,6 +110,14 @@ uint32_t golfcedar_read_out(const uint8_t *old_graph, size_t old_len, const uint
 uint32_t golfcedar_clique(const uint8_t *old_graph, size_t old_len, const uint8_t *new_graph, size_t new_len,
                           const uint8_t *substitutes, size_t substitutes_len, uint8_t minimum, uint8_t *mapping, size_t mapping_len,
                           uint64_t *value, uint64_t *size);
+
+/* How many visits a search can take at most if the new graph has `new_order` vertices and the old one `old_order`, whatever their labels and edges, the
+ * substitutes and the minimum. The new graph's number comes first here, and the two are not exchangeable: 3 and 2 give 18, 2 and 3 give 24.
+ * Accepted: *value is V(new_order, old_order), where V(m, 0) = 1 and V(m, n) = 1 + m * V(m - 1, n - 1) + V(m, n - 1), without the middle term where m is 0;
+ * or GOLFCEDAR_STEP_LIMIT_CAP, 2^64 - 1, which means that many or more. Refused: 26.
+ * Below the cap, a search that began with `golfcedar_start` is finished once the budgets of its accepted `golfcedar_resume` calls add up to *value. It is a
+ * limit, and mostly far above the steps that a search takes (README.md has figures). */
+uint32_t golfcedar_step_limit(uint64_t new_order, uint64_t old_order, uint64_t *value);
 
 #ifdef __cplusplus
 }

@@ -7,7 +7,7 @@ use crate::answer::Answer;
 use crate::reference::{Graph, UNMAPPED, WORKSPACE_WORDS};
 use crate::{library, reference};
 
-/// The six functions of include/golfcedar.h.
+/// The seven functions of include/golfcedar.h.
 #[allow(clippy::type_complexity)]
 pub struct Implementation {
     pub name: &'static str,
@@ -17,6 +17,7 @@ pub struct Implementation {
     pub resume: fn(&[u8], &[u8], &[u8], &[u8], u64, &mut [u64], &mut [u8]) -> Answer,
     pub read_out: fn(&[u8], &[u8], &[u8], &[u8], &mut [u8]) -> Answer,
     pub clique: fn(&[u8], &[u8], &[u8], u8, &mut [u8]) -> Answer,
+    pub step_limit: fn(u64, u64) -> Answer,
 }
 
 pub const LIBRARY: Implementation = Implementation {
@@ -27,6 +28,7 @@ pub const LIBRARY: Implementation = Implementation {
     resume: library::resume,
     read_out: library::read_out,
     clique: library::clique,
+    step_limit: library::step_limit,
 };
 
 pub const REFERENCE: Implementation = Implementation {
@@ -37,6 +39,7 @@ pub const REFERENCE: Implementation = Implementation {
     resume: reference::resume,
     read_out: reference::read_out,
     clique: reference::clique,
+    step_limit: reference::step_limit,
 };
 
 /// Memory lent for output, with a margin on both sides that shows a write out of bounds.
@@ -127,6 +130,10 @@ pub enum Call {
         mapping: Buffer<u8>,
     },
     Clique(Clique),
+    StepLimit {
+        new_order: u64,
+        old_order: u64,
+    },
 }
 
 #[derive(Clone, Debug, PartialEq, Eq)]
@@ -239,14 +246,18 @@ impl Call {
                 call.minimum,
                 call.mapping.lend(),
             ),
+            Call::StepLimit {
+                new_order,
+                old_order,
+            } => (by.step_limit)(*new_order, *old_order),
         };
         Outcome { answer, memory }
     }
 
-    /// None where the call is on a single graph.
+    /// None where the call is on a single graph, or on none.
     pub fn given(&self) -> Option<&Given> {
         match self {
-            Call::CheckGraph { .. } => None,
+            Call::CheckGraph { .. } | Call::StepLimit { .. } => None,
             Call::CheckMapping { given, .. }
             | Call::Start { given, .. }
             | Call::Resume(Resume { given, .. })
@@ -257,7 +268,7 @@ impl Call {
 
     fn given_mut(&mut self) -> Option<&mut Given> {
         match self {
-            Call::CheckGraph { .. } => None,
+            Call::CheckGraph { .. } | Call::StepLimit { .. } => None,
             Call::CheckMapping { given, .. }
             | Call::Start { given, .. }
             | Call::Resume(Resume { given, .. })
@@ -274,7 +285,7 @@ impl Call {
         self
     }
 
-    /// This call on the same two graphs without their own edges. None where it is on a single graph,
+    /// This call on the same two graphs without their own edges. None where it is not on two graphs,
     /// or one of the two is refused.
     pub fn without_own_edges(mut self) -> Option<Call> {
         let given = self.given_mut()?;
@@ -293,6 +304,7 @@ impl Call {
             Call::Resume(_) => "golfcedar_resume",
             Call::ReadOut { .. } => "golfcedar_read_out",
             Call::Clique(_) => "golfcedar_clique",
+            Call::StepLimit { .. } => "golfcedar_step_limit",
         }
     }
 
@@ -338,6 +350,13 @@ impl Call {
             Call::Clique(call) => arguments.extend([
                 ("minimum", call.minimum.to_string()),
                 ("mapping", call.mapping.to_string()),
+            ]),
+            Call::StepLimit {
+                new_order,
+                old_order,
+            } => arguments.extend([
+                ("new_order", new_order.to_string()),
+                ("old_order", old_order.to_string()),
             ]),
         }
         arguments

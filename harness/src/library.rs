@@ -82,6 +82,8 @@ mod c {
             value: *mut u64,
             size: *mut u64,
         ) -> u32;
+
+        pub fn golfcedar_step_limit(new_order: u64, old_order: u64, value: *mut u64) -> u32;
     }
 }
 
@@ -263,6 +265,16 @@ pub fn clique(
         number,
         value,
         size,
+        ..Answer::default()
+    }
+}
+
+pub fn step_limit(new_order: u64, old_order: u64) -> Answer {
+    let mut value = NOT_STORED;
+    let number = unsafe { c::golfcedar_step_limit(new_order, old_order, &raw mut value) };
+    Answer {
+        number,
+        value,
         ..Answer::default()
     }
 }

@@ -7,15 +7,17 @@ mod clique;
 mod graph;
 mod mapping;
 mod search;
+mod step_limit;
 mod substitutes;
 
-pub use calls::{check_graph, check_mapping, clique, read_out, resume, start};
+pub use calls::{check_graph, check_mapping, clique, read_out, resume, start, step_limit};
 pub use calls::{CHECKPOINT_BYTES, WORKSPACE_WORDS};
 pub use checkpoint::Checkpoint;
 pub use clique::clique_branch;
 pub use graph::{Graph, Problem, MAX_VERTICES};
 pub use mapping::{check, entries_from_bytes, entries_to_bytes, size, Entry, UNMAPPED};
 pub use search::{advance, ceiling, Node};
+pub use step_limit::{capped_limit, uncapped_limits};
 pub use substitutes::Substitutes;
 
 /// Why an input is refused, by its number in 01 or 02.
@@ -42,6 +44,7 @@ pub enum Reason {
     SubstitutesLength = 23,
     SubstituteLabelZero = 24,
     TooManyOldVertices = 25,
+    SizeTooLarge = 26,
 }
 
 /// A reason with the place or row that 01 gives along with it, 0 where it gives none.

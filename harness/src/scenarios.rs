@@ -27,12 +27,12 @@ pub struct Kind {
     scenario: Scenario,
 }
 
-pub const KINDS: [Kind; 14] = [
+pub const KINDS: [Kind; 15] = [
     kind("graph", 150, graph),
     kind("mapping", 180, mapping),
     kind("start", 50, start),
     kind("room", 40, room),
-    kind("crafted", 165, crafted),
+    kind("crafted", 160, crafted),
     kind("damaged", 150, damaged),
     kind("small", 130, small),
     kind("relisted", 30, relisted),
@@ -42,6 +42,7 @@ pub const KINDS: [Kind; 14] = [
     kind("long", 5, long),
     kind("clique", 40, clique),
     kind("crowded", 15, crowded),
+    kind("limit", 5, limit),
 ];
 
 const fn kind(name: &'static str, share: usize, scenario: Scenario) -> Kind {
@@ -442,6 +443,34 @@ fn spoilt_clique(
     judge.compare(Call::Clique(call)).map(drop)
 }
 
+/// Sizes on both sides of 64, and far above it.
+fn limit(judge: &mut Judge, random: &mut Random) -> Verdict<()> {
+    let size = |random: &mut Random| match random.within(0..10) {
+        0 => MAX_VERTICES as u64 + random.pick(&[0, 1]),
+        1 => random.pick(&[255, 256, 1 << 32, (1 << 32) + 7, 1 << 63, u64::MAX]),
+        _ => random.within(0..ANY_ORDER) as u64,
+    };
+    let call = Call::StepLimit {
+        new_order: size(random),
+        old_order: size(random),
+    };
+    judge.compare(call).map(drop)
+}
+
+/// A finished walk has made no more visits than were foretold.
+fn within_limit(judge: &mut Judge, problem: &Problem, finished: &Checkpoint) -> Verdict<()> {
+    let call = Call::StepLimit {
+        new_order: problem.new.order() as u64,
+        old_order: problem.old.order() as u64,
+    };
+    let limit = judge.compare(call)?.answer.value;
+    if finished.steps <= limit {
+        Ok(())
+    } else {
+        Err(format!("{finished:?}, but the limit is {limit}"))
+    }
+}
+
 /// A list of calls from a fresh checkpoint, refused ones among them. It must lead to the
 /// checkpoint of one walk that is never stopped.
 fn session(
@@ -473,6 +502,9 @@ fn session(
     }
     if let Some(incumbent) = &last.incumbent {
         caller.check_mapping(judge, entries_to_bytes(incumbent))?;
+    }
+    if last.finished {
+        within_limit(judge, problem, &last)?;
     }
     let unbroken = advance(problem, &Checkpoint::fresh(minimum), granted);
     if last == unbroken {

@@ -23,7 +23,7 @@ fn each_kind_agrees() {
 
 /// Each function on two graphs of 64 vertices and all edges, and on a full list; clique branching on
 /// as many old vertices as it takes.
-fn heavy_calls() -> [Call; 6] {
+fn heavy_calls() -> [Call; 7] {
     let style = Style {
         vertex_labels: vec![7],
         edge_labels: vec![1, 2],
@@ -56,6 +56,10 @@ fn heavy_calls() -> [Call; 6] {
             mapping: Buffer::filled(0, MAX_VERTICES, MAX_VERTICES),
         },
         Call::Clique(deep_clique()),
+        Call::StepLimit {
+            new_order: MAX_VERTICES as u64,
+            old_order: MAX_VERTICES as u64,
+        },
         Call::Resume(Resume {
             given,
             checkpoint,

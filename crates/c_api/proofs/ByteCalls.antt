@@ -2,7 +2,7 @@
 use mathlib.Core.Path.{_≡_, refl, sym, ap, _∙_}
 use mathlib.Core.Bool.{true, false}
 use mathlib.Core.List.{List, [], _∷_, map}
-use Prim.Native.Nat.{ℕ}
+use Prim.Native.Nat.{ℕ, _≤_, _<_}
 use native.Mathlib.Omega.{arith}
 use lib.Dec.{eqb}
 use lib.ListN.{take}
@@ -11,12 +11,14 @@ use Rattle.answers.specs.Answer.{Answer, passed, accepted, refused, refusedAt, 
 use Rattle.problem.specs.Problem.{Problem, SoundProblem, substituting}
 use Rattle.problem_reader.specs.ProblemReading.{ReadOutcome, read, refusal, readProblem}
 use Rattle.problem_reader.proofs.ReadProblem.{Refusing, outcome-refusing}
+use Rattle.step_limit.specs.StepLimits.{cap, foretold}
+use Rattle.step_limit.proofs.Foretold.{below-cap}
 use Rattle.checkpoint.specs.declared.Checkpoint.{Checkpoint}
 use Rattle.checkpoint.specs.Checkpoints.{freshCheckpoint, InShape}
 use Rattle.search.specs.Call.{Called}
-use Rattle.search.specs.Calls.{called, results, leaves}
+use Rattle.search.specs.Calls.{called, results, leaves, reached, spent}
 use Rattle.checkpoint.proofs.CheckpointPasses.{passes-shape}
-use Rattle.search.proofs.ThirdProperty.{third-property-total}
+use Rattle.search.proofs.ThirdProperty.{third-property-total, limit-spent}
 use Rattle.checkpoint_loader.specs.Between.{Sized}
 use Rattle.checkpoint_saver.specs.Saving.{saving}
 use Rattle.checkpoint_loader.specs.Loading.{Loading, loading}
@@ -121,6 +123,7 @@ module _ (old new substitutes : List ℕ) (minimum : ℕ) (buffer : List ℕ) wh
           record {
             graphs = G;
             graphs-read = e;
+            sound = sound;
             total = end .0;
             is-total = end .1;
             property = λ calls. end .3 (searchCalls old new substitutes (take k (saving P fresh buffer .buffer)) calls);
@@ -134,3 +137,15 @@ module _ (old new substitutes : List ℕ) (minimum : ℕ) (buffer : List ℕ) wh
           → ThroughBytes old new substitutes minimum (startBytes (startOn g substitutes minimum buffer))
       go (read G) e h z = let P = substituting substitutes G in on-save G e (saving P fresh buffer .answer) refl (save-kept P fresh buffer) z
       go (refusal a) e h z = absurd (omega (arith, h .0))
+
+-- Below the cap, once the budgets of the calls that are not refused add up to the step limit that is told of the two orders, the search is finished (02, U5).
+module _ {old new substitutes bytes : List ℕ} {minimum : ℕ} (through : ThroughBytes old new substitutes minimum bytes) where
+  pub limit-through-bytes : (v : ℕ) → foretold (through .graphs .new .order) (through .graphs .old .order) ≡ accepted v → v < cap
+      → (calls : List ByteCall)
+      → let P = substituting substitutes (through .graphs) in
+      let made = searchCalls old new substitutes bytes calls in
+      v ≤ spent P minimum made → reached P minimum made .finished ≡ true
+  limit-through-bytes v told below calls enough =
+      let P = substituting substitutes (through .graphs) in
+      limit-spent P (through .sound) minimum (searchCalls old new substitutes bytes calls)
+      (rw (below-cap (through .graphs .new .order) (through .graphs .old .order) v told below) enough)

@@ -7,7 +7,7 @@ use Prim.Native.Nat.{ℕ}
 use lib.Dec.{eqb}
 use lib.ListN.{take}
 use Rattle.answers.specs.Answer.{Answer, refusalNumber, onAnswer}
-use Rattle.problem.specs.Problem.{Problem, substituting}
+use Rattle.problem.specs.Problem.{Problem, SoundProblem, substituting}
 use Rattle.problem_reader.specs.ProblemReading.{read, readProblem}
 use Rattle.search_tree.specs.Search.{searchOf}
 use Rattle.search_tree.specs.Walk.{IsTotal}
@@ -82,6 +82,7 @@ module _ (old new substitutes : List ℕ) where
   pub record ThroughBytes (minimum : ℕ) (bytes : List ℕ) : Type 0 where
     pub graphs : Problem
     pub graphs-read : readProblem old new ≡ read graphs
+    pub sound : SoundProblem (substituting substitutes graphs)
     pub total : ℕ
     pub is-total : IsTotal (searchOf (substituting substitutes graphs)) minimum total
     pub property : (calls : List ByteCall) → ThirdProperty (substituting substitutes graphs) minimum total (searchCalls bytes calls)

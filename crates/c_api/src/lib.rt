@@ -6,7 +6,8 @@ use graph::Label;
 use graph::MAX_ORDER;
 use problem_reader::ProblemRead;
 ghost use mathlib.Core.Path.{_≡_};
-ghost use Rattle.replies.specs.Reply.{reply};
+ghost use Rattle.step_limit.specs.StepLimits.{foretold};
+ghost use Rattle.replies.specs.Reply.{reply, replyOf};
 ghost use Rattle.replies.specs.Checked.{checked};
 ghost use Rattle.replies.specs.Resumed.{resumed};
 ghost use Rattle.replies.specs.ReadOut.{readOut};
@@ -273,4 +274,14 @@ pub extern "C" fn golfcedar_clique(
             found.reply.number
         }
     }
+}
+
+// How many visits a search of two graphs of these orders can take at most.
+#[no_mangle]
+pub extern "C" fn golfcedar_step_limit(new_order: u64, old_order: u64, value: &mut u64) -> u32
+    ensures { λ r. ⌜ reply r (now (value .exit)) ≡ replyOf (foretold «new_order» «old_order») ⌝ }
+{
+    let reply = replies::of_limit(step_limit::step_limit(new_order as usize, old_order as usize));
+    *value = reply.value;
+    reply.number
 }

@@ -1,5 +1,5 @@
 // What a caller outside Rattle gets, in numbers: the reply to an answer, to a search call on checkpoint bytes, to a reading out
-// of them, and to clique branching.
+// of them, to clique branching, and to the step limit foretold.
 
 mod held;
 mod values;
@@ -16,12 +16,14 @@ use problem::Labels;
 use problem::Orders;
 use search::SearchAnswer;
 use search::WORDS;
+use step_limit::LimitAnswer;
 ghost use mathlib.Core.Path.{_≡_};
 ghost use Prim.Native.Nat.{_≤_};
 ghost use lib.ListN.{getD};
 ghost use Rattle.graph_reader.specs.Answers.{readAnswer};
 ghost use Rattle.problem.specs.Lent.{lent};
 ghost use Rattle.mapping.specs.Answers.{mappingOutcome};
+ghost use Rattle.step_limit.specs.Answers.{limitAnswerOf};
 ghost use Rattle.clique.specs.Answers.{cliqueAnswerOf};
 ghost use Rattle.search.specs.Answers.{searchAnswer};
 ghost use Rattle.checkpoint_saver.specs.Answers.{saveAnswer};
@@ -106,6 +108,15 @@ fn of_clique(answer: CliqueAnswer) -> Reply
     Reply {
         number: clique::clique_number(answer) as u32,
         value: values::clique_value(answer),
+    }
+}
+
+pub fn of_limit(answer: LimitAnswer) -> Reply
+    ensures { λ r. ⌜ r ≡ replyOf (limitAnswerOf answer) ⌝ }
+{
+    Reply {
+        number: step_limit::limit_number(answer) as u32,
+        value: values::limit_value(answer),
     }
 }
 

@@ -6,10 +6,12 @@ use clique::CliqueAnswer;
 use graph_reader::ReadAnswer;
 use mapping::MappingAnswer;
 use search::SearchAnswer;
+use step_limit::LimitAnswer;
 ghost use mathlib.Core.Path.{_≡_};
 ghost use Rattle.answers.specs.Answer.{valueOf};
 ghost use Rattle.graph_reader.specs.Answers.{readAnswer};
 ghost use Rattle.mapping.specs.Answers.{mappingOutcome};
+ghost use Rattle.step_limit.specs.Answers.{limitAnswerOf};
 ghost use Rattle.clique.specs.Answers.{cliqueAnswerOf};
 ghost use Rattle.search.specs.Answers.{searchAnswer};
 ghost use Rattle.checkpoint_saver.specs.Answers.{saveAnswer};
@@ -99,5 +101,14 @@ pub fn earlier_row(answer: MappingAnswer) -> u64
         MappingAnswer::SameImage(_, earlier) => earlier.0 as u64,
         MappingAnswer::LabelsDisagree(_) => 0,
         MappingAnswer::EdgesDiffer(_, earlier) => earlier.0 as u64,
+    }
+}
+
+pub fn limit_value(answer: LimitAnswer) -> u64
+    ensures { λ r. ⌜ r ≡ valueOf (limitAnswerOf answer) ⌝ }
+{
+    match answer {
+        LimitAnswer::Limit(limit) => limit,
+        LimitAnswer::ManyVertices => 0,
     }
 }

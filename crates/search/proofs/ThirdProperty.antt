@@ -13,6 +13,7 @@ use Rattle.problem.specs.Problem.{Problem, SoundProblem}
 use Rattle.mapping.specs.Common.{Common}
 use Rattle.search_tree.specs.Rules.{rulesOf}
 use Rattle.search_tree.specs.Search.{searchOf}
+use Rattle.search_tree.specs.StepLimit.{stepLimit}
 use Rattle.search_tree.specs.Walk.{State, after, IsTotal}
 use Rattle.search_tree.specs.Ceiling.{ceiling}
 use Rattle.search_tree.specs.Best.{Best}
@@ -198,3 +199,11 @@ third-property-total P sound minimum =
       λ u total. total-unique (searchOf P) minimum total (end .1),
       third-property P sound minimum (end .0) (end .1),
     )
+
+-- Once the budgets of the calls that are not refused add up to the step limit of the two orders, the search is finished (02, U5).
+pub limit-spent : (P : Problem) → SoundProblem P → (minimum : ℕ) (calls : List Call)
+    → stepLimit (P .new .order) (P .old .order) ≤ spent P minimum calls → reached P minimum calls .finished ≡ true
+limit-spent P sound minimum calls enough =
+    let end = walk-ends P sound minimum in
+    let property = third-property P sound minimum (end .0) (end .1) calls in
+    property .finished .1 (omega (arith, property .steps, end .2))

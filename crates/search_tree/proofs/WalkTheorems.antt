@@ -13,7 +13,7 @@ use Rattle.problem.specs.Problem.{Problem, SoundProblem}
 use Rattle.mapping.specs.Common.{size, Common}
 use Rattle.problem.proofs.Consistent.{consistent-facts}
 use Rattle.search_tree.specs.Rules.{Regular, rulesOf}
-use Rattle.search_tree.specs.Search.{searchOf}
+use Rattle.search_tree.specs.Search.{Search, searchOf}
 use Rattle.search_tree.specs.Node.{upperBound}
 use Rattle.search_tree.specs.StepLimit.{stepLimit}
 use Rattle.search_tree.specs.Walk.{after, IsTotal}
@@ -22,11 +22,24 @@ use Rattle.search_tree.specs.Best.{Best}
 use Rattle.search_tree.specs.Shape.{IncumbentShape}
 use Rattle.search_tree.proofs.Weight.{weight-root}
 use Rattle.search_tree.proofs.LawfulTree.{lawful}
-use Rattle.search_tree.proofs.Steps.{total-exists}
+use Rattle.search_tree.proofs.Steps.{total-exists, total-unique}
 use Rattle.search_tree.proofs.LastNodes.{under-beginning}
 use Rattle.search_tree.proofs.ReachedCommon.{full-common, last-common}
 use Rattle.search_tree.proofs.Best.{best-same, best-unique}
 use Rattle.search_tree.proofs.Solutions.{Solution, incumbent-candidate, solution-below, total-best}
+
+-- A search over regular rules ends: it has a total, at most the step limit of its values and rows, whichever last nodes it admits.
+pub search-ends : (S : Search) → Regular (S .rules) → (minimum : ℕ)
+    → (t : ℕ) × IsTotal S minimum t × (t ≤ stepLimit (S .rules .values) (S .rules .rows))
+search-ends S regular minimum =
+    let end = total-exists S (regular .few) minimum (lawful S regular) in
+    (end .0, end .1, subst (λ (m : ℕ). end .0 ≤ m) (weight-root (S .rules)) (end .2))
+
+-- So the total of such a search is at most that.
+pub search-limit : (S : Search) → Regular (S .rules) → {minimum t : ℕ} → IsTotal S minimum t → t ≤ stepLimit (S .rules .values) (S .rules .rows)
+search-limit S regular {minimum} total =
+    let end = search-ends S regular minimum in
+    omega (arith, total-unique S minimum total (end .1), end .2)
 
 module _ (P : Problem) (sound : SoundProblem P) where
   -- The rules of a sound problem are regular: a new vertex is below 64, and two rows that stand together have two partners.
@@ -72,11 +85,13 @@ module _ (P : Problem) (sound : SoundProblem P) where
 
     -- The walk ends: it has a total, at most the step limit of its values and rows.
     pub walk-ends : (t : ℕ) × IsTotal (searchOf P) minimum t × (t ≤ stepLimit (P .new .order) (P .old .order))
-    walk-ends =
-        let end = total-exists (searchOf P) (rules-regular .few) minimum (lawful (searchOf P) rules-regular) in
-        (end .0, end .1, subst (λ (m : ℕ). end .0 ≤ m) (weight-root (rulesOf P)) (end .2))
+    walk-ends = search-ends (searchOf P) rules-regular minimum
 
     module _ {t : ℕ} (total : IsTotal (searchOf P) minimum t) where
+      -- The total is at most the step limit.
+      pub total-limit : t ≤ stepLimit (P .new .order) (P .old .order)
+      total-limit = search-limit (searchOf P) rules-regular total
+
       -- At the total the best is held: a largest common subgraph and of those the first, or nothing where none reaches the minimum.
       pub common-best : Best (Common P) minimum (after (searchOf P) minimum t .incumbent)
       common-best = best-same solution-common (total-best (searchOf P) (rules-regular .few) minimum (lawful (searchOf P) rules-regular) total)

@@ -42,7 +42,7 @@ fn main() {
     }
     println!("foretold, with {nanoseconds:.1} ns a node:");
     for order in FORETOLD {
-        let nodes = worst_nodes(order, CLIQUE_VERTICES) as f64;
+        let nodes = library::step_limit(order as u64, CLIQUE_VERTICES as u64).value as f64;
         let seconds = nodes * nanoseconds / 1e9;
         let days = seconds / 86_400.0;
         println!("  {order:2} new vertices: {nodes:.1e} nodes, {seconds:.0} s, {days:.1} days");
@@ -53,15 +53,6 @@ fn main() {
         let dearest = (0..SEEDS).max_by_key(|&seed| clique::branch(&cut(seed), 0).nodes);
         let time = time(&cut(dearest.expect("a panel")));
         println!("  {order:2} new vertices, {labels:2} labels: {time}");
-    }
-}
-
-/// U5's V, where every partial mapping is a node: m new vertices and n old ones.
-fn worst_nodes(m: usize, n: usize) -> u128 {
-    match n {
-        0 => 1,
-        _ if m == 0 => 1 + worst_nodes(0, n - 1),
-        _ => 1 + m as u128 * worst_nodes(m - 1, n - 1) + worst_nodes(m, n - 1),
     }
 }
 

@@ -1,6 +1,7 @@
-//! The six functions of include/golfcedar.h: their answers, and what they leave in lent memory.
+//! The seven functions of include/golfcedar.h: their answers, and what they leave in lent memory.
 
-use super::{advance, ceiling, check, clique_branch, entries_from_bytes, entries_to_bytes, size};
+use super::{advance, capped_limit, ceiling, check, clique_branch};
+use super::{entries_from_bytes, entries_to_bytes, size};
 use super::{Checkpoint, Graph, Problem, Reason, Refusal};
 use crate::answer::Answer;
 
@@ -95,6 +96,10 @@ pub fn clique(
         })
     });
     answer(branched)
+}
+
+pub fn step_limit(new_order: u64, old_order: u64) -> Answer {
+    answer(capped_limit(new_order, old_order).map(Answer::accepted))
 }
 
 fn may_advance(checkpoint: &Checkpoint, budget: u64, workspace: &[u64]) -> Result<(), Refusal> {

@@ -1,0 +1,2 @@
+pub mod StepLimits
+pub mod Answers
