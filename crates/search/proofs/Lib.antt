@@ -6,9 +6,11 @@ pub mod FinishedCall
 pub mod FirstChild
 pub mod LaterTop
 pub mod LevelStores
+pub mod LastPairs
 pub mod Levels
 pub mod MaskRows
 pub mod MeetTurn
+pub mod MovedPath
 pub mod MetParts
 pub mod NextSibling
 pub mod NodeWords
@@ -25,6 +27,7 @@ pub mod StateCeiling
 pub mod VisitTurn
 pub mod StoredRow
 pub mod ThirdProperty
+pub mod Trails
 pub mod WalkCall
 pub mod WordBounds
 pub mod WordCeiling

@@ -69,6 +69,18 @@ module _ {s near far : ℕ} (parts : Parts s near far) where
 lost-le : (s : ℕ) (word : ℕ → ℕ) → lostRows s word ≤ size s
 lost-le s word = countBelow-mono 64 _ _ (λ m h e. and-eq-true-iff (member s m) (eqb (word m) 0) .0 e .0)
 
+-- Rows that are met whatever is needed are met for any need.
+pub met-any : {s : ℕ} {word : ℕ → ℕ} {level need : ℕ} {ws ws′ : List ℕ} {kept r : Kept} → Met s word level 0 ws kept ws′ r
+    → Met s word level need ws kept ws′ r
+met-any met = record {
+  words = met .words;
+  others = met .others;
+  few = λ h. omega (arith, met .count-is (omega arith));
+  count-is = λ h. met .count-is (omega arith);
+  rows-are = λ h. met .rows-are (omega arith);
+  filled = λ h. met .filled (omega arith);
+}
+
 -- Words that agree on the set are met alike.
 pub met-words : {s : ℕ} {word word′ : ℕ → ℕ} {level need : ℕ} {ws ws′ : List ℕ} {kept r : Kept}
     → ((m : ℕ) → m < 64 → member s m ≡ true → word m ≡ word′ m) → Met s word level need ws kept ws′ r → Met s word′ level need ws kept ws′ r

@@ -1,8 +1,8 @@
 -- A run of visits, one a turn: the code's checkpoint is the walk's after as many visits, and a finished walk stays as it is.
 use mathlib.Core.Path.{_≡_, refl, sym, ap, ap₂, _∙_}
-use mathlib.Core.Bool.{true, false}
+use mathlib.Core.Bool.{true, false, Bool}
 use mathlib.Core.List.{List}
-use Prim.Native.Nat.{ℕ, suc, _+_, _-_, _≤_, _<_}
+use Prim.Native.Nat.{ℕ, suc, _+_, _-_, _≤_, _<_, _^_}
 use native.Mathlib.Nat.{le-refl}
 use native.Mathlib.Decide.{le-ind}
 use native.Mathlib.Omega.{arith}
@@ -109,7 +109,7 @@ module _ {budget n : ℕ} {edges masks first ws : List ℕ} {w : Walk} where
         }
 
     -- A finished walk has made all visits of the budget.
-    pub ran-finished : w′ .checkpoint .finished ≡ true → (P : Problem) → Setting P n edges masks → Ready P w ws
+    ran-finished : w′ .checkpoint .finished ≡ true → (P : Problem) → Setting P n edges masks → Ready P w ws
         → Arrives P (w .checkpoint .minimum) (visits (searchOf P) (w .checkpoint .minimum) budget (stateOf (P .old .order) (w .checkpoint))) w′ ws′
     unfolding checkpointOf
     ran-finished end P setting ready =
@@ -120,8 +120,32 @@ module _ {budget n : ℕ} {edges masks first ws : List ℕ} {w : Walk} where
         record { checkpoint-is = rw stays (here .checkpoint-is); ready = here .ready }
 
     -- At the end all visits are made.
-    pub ran-all : w .checkpoint .steps + budget ≤ w′ .checkpoint .steps → (P : Problem) → Setting P n edges masks → Ready P w ws
+    ran-all : w .checkpoint .steps + budget ≤ w′ .checkpoint .steps → (P : Problem) → Setting P n edges masks → Ready P w ws
         → Arrives P (w .checkpoint .minimum) (visits (searchOf P) (w .checkpoint .minimum) budget (stateOf (P .old .order) (w .checkpoint))) w′ ws′
     ran-all h P setting ready =
         let all : w′ .checkpoint .steps - w .checkpoint .steps ≡ budget = omega (arith, ran .within) in
         rw all at (ran .arrives P setting ready)
+
+-- where the loop ends: at the steps that the budget allows, or where the walk is finished, at once
+pub record EndsAt (budget : ℕ) (w w′ : Walk) (last : ℕ) : Type 0 where
+  pub busy : w′ .checkpoint .finished ≡ false → (last ≡ w .checkpoint .steps + budget) × (last < 2 ^ 64)
+  pub done : w′ .checkpoint .finished ≡ true → last ≤ w′ .checkpoint .steps
+
+-- Before the end the walk is not finished.
+pub goes-on : {budget : ℕ} {w w′ : Walk} {last : ℕ} → EndsAt budget w w′ last → w′ .checkpoint .steps < last → w′ .checkpoint .finished ≡ false
+goes-on {w′ = w′} {last} ends h = go (w′ .checkpoint .finished) refl
+  where
+    go : (b : Bool) → w′ .checkpoint .finished ≡ b → b ≡ false
+    go true e = absurd (omega (arith, ends .done e))
+    go false e = refl
+
+-- At the end, finished or not, all visits are made.
+pub ran-out : {budget n : ℕ} {edges masks first ws ws′ : List ℕ} {w w′ : Walk} {last : ℕ} → RanTo budget n edges masks first ws w ws′ w′
+    → EndsAt budget w w′ last → last ≤ w′ .checkpoint .steps → (P : Problem) → Setting P n edges masks → Ready P w ws
+    → Arrives P (w .checkpoint .minimum) (visits (searchOf P) (w .checkpoint .minimum) budget (stateOf (P .old .order) (w .checkpoint))) w′ ws′
+ran-out {budget} {n} {edges} {masks} {first} {ws} {ws′} {w} {w′} ran ends h P setting ready = go (w′ .checkpoint .finished) refl
+  where
+    go : (b : Bool) → w′ .checkpoint .finished ≡ b
+        → Arrives P (w .checkpoint .minimum) (visits (searchOf P) (w .checkpoint .minimum) budget (stateOf (P .old .order) (w .checkpoint))) w′ ws′
+    go true e = ran-finished ran e P setting ready
+    go false e = ran-all ran (omega (arith, ends .busy e .0)) P setting ready

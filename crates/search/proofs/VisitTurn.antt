@@ -17,10 +17,12 @@ use Rattle.checkpoint.specs.declared.Checkpoint.{Checkpoint}
 use Rattle.search.specs.declared.walk.Place.{Place}
 use Rattle.search.specs.declared.walk.Walk.{Walk}
 use Rattle.checkpoint.specs.Checkpoints.{checkpointOf, stateOf}
-use Rattle.search.specs.Words.{First, Words}
+use Rattle.search.specs.Words.{First, Words, openRows}
 use Rattle.search.specs.Walking.{Setting, AtNode, InBounds, Ready, Arrives, Bounded, RestZero, Descends, Retreats, Resumes}
+use Rattle.search.specs.Walking.{Trail, OpenIs, LastIs}
 use Rattle.checkpoint.proofs.CheckpointState.{checkpoint-tidy}
 use Rattle.search.proofs.ReadyWalk.{own-order, node-length}
+use Rattle.search.proofs.NodeWords.{node-bound}
 use Rattle.search.proofs.ReachedBounds.{reached-in-bounds}
 use Rattle.checkpoint.proofs.StateShape.{state-in-shape}
 use Rattle.checkpoint.proofs.StateShape.{checkpoint-in-shape}
@@ -305,6 +307,19 @@ pub data Moves (n : ℕ) (w : Walk) (ws : List ℕ) : Bool → List ℕ → ℕ 
       → AtNode P (w .checkpoint .path) (w .checkpoint .depth) (w .pairs) ws
       → Words P (w .checkpoint .path) (w .checkpoint .depth) ws → Descends P (w .checkpoint .path) (w .checkpoint .depth) ws r path′)
       → Moves n w ws (w .checkpoint .holds) (w .checkpoint .incumbent) (w .cutoff) path′ r
+
+-- what is known of the path that a visit leads to, beside its node: its trail, its last entry, and the rows that are open before that is met
+pub record Led (path′ : List ℕ) (r : Place) (trail′ ws : List ℕ) : Type 0 where
+  pub trail : Trail path′ (r .depth) trail′ ws
+  pub open-is : OpenIs (r .depth) (r .pairs) (r .last) (r .later) ws
+  pub last-is : LastIs path′ (r .depth) (r .last)
+
+-- The bound of a node that reaches the cutoff, from the rows that are open.
+pub open-bound : {P : Problem} {n : ℕ} {edges masks ws : List ℕ} {w : Walk} → Setting P n edges masks → Ready P w ws → w .cutoff ≤ w .bound → w .pairs < 64
+    → w .bound ≡ w .pairs + openRows (w .checkpoint .depth) (w .pairs) ws
+open-bound setting ready high few =
+    let known = ready .bounded .high high in
+    known .0 ∙ sym (node-bound setting (ready .node) few (known .1))
 
 -- The place that the walk moves to is in bounds.
 pub moved-in-bounds : {n : ℕ} {edges masks first ws incumbent′ path′ : List ℕ} {w : Walk} {holds′ : Bool} {cutoff′ : ℕ} {r : Place}

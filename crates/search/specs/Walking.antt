@@ -2,9 +2,9 @@
 -- (01, "The walk" and "Bookmark and calls").
 use mathlib.Core.Path.{_≡_}
 use mathlib.Core.Bool.{true, false}
-use mathlib.Core.Logic.{_⊎_}
+use mathlib.Core.Logic.{_⊎_, _≢_}
 use mathlib.Core.List.{List, [], _∷_, map}
-use Prim.Native.Nat.{ℕ, suc, _+_, _-_, _^_, _≤_, _<_}
+use Prim.Native.Nat.{ℕ, suc, _+_, _-_, _*_, _^_, _≤_, _<_}
 use lib.ListN.{length, getD, take}
 use Rattle.graph.specs.Graph.{graph}
 use Rattle.problem.specs.Problem.{Problem, SoundProblem}
@@ -18,7 +18,7 @@ use Rattle.search.specs.declared.walk.Place.{Place}
 use Rattle.search.specs.declared.walk.Walk.{Walk}
 use Rattle.checkpoint.specs.declared.Checkpoint.{Checkpoint}
 use Rattle.checkpoint.specs.Checkpoints.{stateOf, checkpointOf, InShape}
-use Rattle.search.specs.Words.{Masks, First, Words}
+use Rattle.search.specs.Words.{Masks, First, Words, openRows}
 
 -- the problem whose old order, old edges and masks the code was lent
 pub record Setting (P : Problem) (n : ℕ) (edges masks : List ℕ) : Type 0 where
@@ -82,6 +82,42 @@ levelTop R path w = topBound R (map (extend path) (choicesAfter R path w))
 -- "unused bytes .. (path bytes from the depth on ..) are 0"
 abbrev pub RestZero : List ℕ → ℕ → Type 0
 RestZero path depth = (i : ℕ) → depth ≤ i → i < 64 → getD path i 0 ≡ 0
+
+-- the path of `depth` entries that ends in `last` and is another path before it, with unused bytes 0
+pub record Moved (path : List ℕ) (depth last : ℕ) (path′ : List ℕ) : Type 0 where
+  pub path-length : length path′ ≡ 64
+  pub front : (i : ℕ) → i + 1 < depth → i < 64 → getD path′ i 0 ≡ getD path i 0
+  pub entry : (i : ℕ) → i + 1 ≡ depth → i < 64 → getD path′ i 0 ≡ last
+  pub rest : RestZero path′ depth
+
+-- the rows' numbers, from 1 on
+pub record Numbers (numbers : List ℕ) : Type 0 where
+  pub all : length numbers ≡ 64
+  pub number : (i : ℕ) → i < 64 → getD numbers i 0 ≡ i + 1
+
+-- The pairs of the path's first `depth` entries, each at the number of pairs before it: its row, its value, and how many later rows had a
+-- candidate before it was met, in one number.
+pub record Trail (path : List ℕ) (depth : ℕ) (trail workspace : List ℕ) : Type 0 where
+  pub places : length trail ≡ 64
+  pub value : (k : ℕ) → k < depth → getD path k 0 ≢ unmapped → getD path k 0 < 64
+  pub pair : (k : ℕ) → k < depth → getD path k 0 ≢ unmapped
+      → getD trail (size (take k path)) 0 ≡ 4096 * openRows (k + 1) (size (take k path)) workspace + 64 * k + getD path k 0
+
+-- how many rows from `depth` on have a candidate before the last entry is met
+pub record OpenIs (depth pairs last later : ℕ) (workspace : List ℕ) : Type 0 where
+  pub left-out : last ≡ unmapped → later ≡ openRows depth pairs workspace
+  pub taken : last ≢ unmapped → later ≡ openRows depth (pairs - 1) workspace
+
+-- the last of the path's first `depth` entries, where there is one; the root has none, and is as if left out
+abbrev pub LastIs : List ℕ → ℕ → ℕ → Type 0
+LastIs path depth last = (0 < depth → getD path (depth - 1) 0 ≡ last) × (depth ≡ 0 → last ≡ unmapped)
+
+-- some path leads to the place
+pub record Placed (edges masks first : List ℕ) (depth pairs last later : ℕ) (workspace : List ℕ) : Type 0 where
+  pub path : List ℕ
+  pub bounds : InBounds edges masks first path depth pairs workspace
+  pub last-is : LastIs path depth last
+  pub open-is : OpenIs depth pairs last later workspace
 
 -- the place is the first child of the node
 pub record Descends (P : Problem) (path : List ℕ) (depth : ℕ) (workspace : List ℕ) (r : Place) (path′ : List ℕ) : Type 0 where

@@ -37,14 +37,25 @@ pub fn row_top(
         → AtRow P path (row .0) pairs (now (workspace .entry)) → r ≡ levelTop (rulesOf P) (take (row .0) path) (value .0)) ⌝ }
 {
     let word = words::level_word(workspace, pairs, row);
-    let mut top = pairs + 1 + words::count_open(workspace, row.0 + 1, pairs);
+    let open = words::count_open(workspace, row.0 + 1, pairs);
+    let mut top = pairs + 1 + open;
     let mut last = value.0;
     loop {
         match bitset::least_above(word, last) {
             Least::Member(v) => {
                 let above = pairs
                     + 2
-                    + words::refine(edges, masks, first, workspace, row, pairs, NewVertex(v), 0);
+                    + words::refine(
+                        edges,
+                        masks,
+                        first,
+                        workspace,
+                        row,
+                        pairs,
+                        NewVertex(v),
+                        open,
+                        0,
+                    );
                 if top < above {
                     top = above;
                 }

@@ -6,6 +6,7 @@ mod words;
 
 use checkpoint::Checkpoint;
 use checkpoint::ShapeAnswer;
+use graph::MAX_ORDER;
 use problem::Edges;
 use problem::Labels;
 use problem::Orders;
@@ -85,7 +86,16 @@ fn advance<'a>(
     let allowed = problem::allowed_sets(labels, edges, substitutes);
     words::root_words(old_order, &allowed, workspace);
     let first = words::all_first(old_order, old_edges);
-    let start = walk::start(checkpoint, old_order, old_edges, &masks, &first, workspace);
+    let mut trail = [0usize; MAX_ORDER];
+    let start = walk::start(
+        checkpoint,
+        old_order,
+        old_edges,
+        &masks,
+        &first,
+        &mut trail,
+        workspace,
+    );
     let end = walk::run(
         start,
         budget,
@@ -93,6 +103,7 @@ fn advance<'a>(
         old_edges,
         &masks,
         &first,
+        &mut trail,
         workspace,
     );
     let top = ceiling::ceiling(end, old_edges, &masks, &first, workspace);

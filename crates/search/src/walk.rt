@@ -9,25 +9,32 @@ use mapping::OldVertex;
 use mapping::UNMAPPED;
 ghost use mathlib.Core.Path.{_≡_};
 ghost use mathlib.Core.Bool.{false};
-ghost use mathlib.Core.Logic.{_⊎_};
+ghost use mathlib.Core.List.{List};
 ghost use Prim.Native.Nat.{ℕ, _+_, _-_, _≤_, _<_, _^_};
-ghost use lib.ListN.{length, getD, take};
+ghost use lib.ListN.{length, take};
 ghost use Rattle.problem.specs.Problem.{Problem, SoundProblem};
-ghost use Rattle.mapping.specs.Common.{unmapped, size};
+ghost use Rattle.mapping.specs.Common.{size};
 ghost use Rattle.search_tree.specs.Rules.{rulesOf};
 ghost use Rattle.search_tree.specs.Search.{searchOf};
 ghost use Rattle.search_tree.specs.Trees.{Reached};
 ghost use Rattle.search_tree.specs.Walk.{visit};
 ghost use Rattle.checkpoint.specs.Checkpoints.{stateOf, InShape};
-ghost use Rattle.search.specs.Words.{Words};
+ghost use Rattle.search.specs.Words.{Words, ExactSet, openSet, openRows};
 ghost use Rattle.search.specs.Walking.{Setting, AtNode, InBounds, Ready, Arrives, Bounded, Descends, Retreats, CountFits, Resumes, Starts};
+ghost use Rattle.search.specs.Walking.{RestZero, Moved, Numbers, Trail, OpenIs, LastIs, Placed};
 ghost use Rattle.search.specs.Call.{visits};
 
-// Where the walk stands: the next node's depth and number of pairs, or finished at depth 0.
+// The trail that is lent along with the workspace has the pairs on the path, each at the number of pairs before it, so that no visit reads the path:
+// 4096 times the number of later rows that had a candidate before the pair was met, 64 times its row, and its value.
+
+// Where the walk stands: the next node's depth and number of pairs, or finished at depth 0. `last` is its last row's entry, and `later` tells how
+// many rows after it have a candidate before that entry is met: where the row is left out, none is lost.
 pub struct Place {
     pub depth: usize,
     pub pairs: usize,
     pub finished: bool,
+    pub last: u8,
+    pub later: usize,
 }
 
 // A checkpoint, with the numbers that follow from it: the pairs on its path, the cutoff, which a node must reach, and its node's upper bound, or,
@@ -39,30 +46,28 @@ pub struct Walk {
     pub bound: usize,
 }
 
-// The upper bound of the node, and its own words in the workspace; or, where the bound is below the cutoff, some number below it.
+// The upper bound of the node at a place, and its own words in the workspace; or, where the bound is below the cutoff, some number below it.
 pub fn upper_bound(
     edges: &[u8],
     masks: &[u64],
     first: &[u64; MAX_ORDER],
-    path: &[u8; MAX_ORDER],
     workspace: &mut [u64],
     depth: usize,
     pairs: usize,
+    last: u8,
+    later: usize,
     cutoff: usize,
 ) -> usize
-    requires { ⌜ InBounds (now edges) (now masks) (now first) (now path) depth pairs (now workspace) ⌝ }
-    ensures bounded { λ r. ⌜ ((P : Problem) → Setting P (P .old .order) (now (edges .entry)) (now (masks .entry))
-        → AtNode P (now (path .entry)) depth pairs (now (workspace .entry)) → Bounded P (now (path .entry)) depth cutoff (now (workspace .exit)) r) ⌝ }
+    requires { ⌜ Placed (now edges) (now masks) (now first) depth pairs last later (now workspace) ⌝ }
+    ensures bounded { λ r. ⌜ ((P : Problem) (path : List ℕ) → Setting P (P .old .order) (now (edges .entry)) (now (masks .entry))
+        → AtNode P path depth pairs (now (workspace .entry)) → LastIs path depth last → Bounded P path depth cutoff (now (workspace .exit)) r) ⌝ }
     ensures small { λ r. ⌜ r < 2 ^ 64 - 1 ⌝ }
+    ensures kept { λ _. ⌜ ((p : ℕ) → p < pairs → openSet p (now (workspace .exit)) ≡ openSet p (now (workspace .entry))) ⌝ }
 {
-    if depth == 0 {
-        return pairs + words::count_open(workspace, depth, pairs);
+    if last == UNMAPPED {
+        return pairs + later;
     }
     let row = depth - 1;
-    let last = path[row];
-    if last == UNMAPPED {
-        return pairs + words::count_open(workspace, depth, pairs);
-    }
     let mut need = 0;
     if pairs < cutoff {
         need = cutoff - pairs;
@@ -76,80 +81,174 @@ pub fn upper_bound(
             OldVertex(row),
             pairs - 1,
             NewVertex(last as usize),
+            later,
             need,
         )
 }
 
-// The first child: the row at `depth` takes its least candidate, or is left out.
-pub fn descend(path: &mut [u8; MAX_ORDER], workspace: &[u64], depth: usize, pairs: usize) -> Place
-    requires { ⌜ (length (now path) ≡ 64) × (4160 ≤ length (now workspace)) × (depth < 64) × (pairs ≤ depth) ⌝ }
-    ensures { λ r. ⌜ ((P : Problem) → SoundProblem P → depth < P .old .order
+// The rows' numbers, from 1 on, as bytes.
+pub fn row_numbers() -> [u8; MAX_ORDER]
+    ensures { λ r. ⌜ Numbers r ⌝ }
+{
+    let mut numbers = [0u8; MAX_ORDER];
+    let mut i = 0;
+    while i < MAX_ORDER {
+        numbers[i] = ((i + 1) % 256) as u8;
+        i += 1;
+    }
+    numbers
+}
+
+// The entry of the row of a number once the walk stands at `depth`.
+pub fn entry(number: u8, depth: u8, old: u8, last: u8) -> u8
+    ensures { λ r. ⌜ (number < depth → r ≡ old) × (number ≡ depth → r ≡ last) × (depth < number → r ≡ 0) ⌝ }
+{
+    if number < depth {
+        return old;
+    }
+    if number == depth {
+        return last;
+    }
+    0
+}
+
+// The path becomes that of `depth` entries which ends in `last` and is the same before it. Entry by entry, so that it can be held in registers and
+// need not move through memory: `numbers` lets the compiler do it by the sixteen.
+pub fn move_back(numbers: &[u8; MAX_ORDER], path: &mut [u8; MAX_ORDER], depth: u8, last: u8)
+    requires { ⌜ Numbers (now numbers) × (length (now path) ≡ 64) ⌝ }
+    ensures { λ _. ⌜ Moved (now (path .entry)) depth last (now (path .exit)) ⌝ }
+{
+    let mut i = 0;
+    while i < MAX_ORDER {
+        path[i] = entry(numbers[i], depth, path[i], last);
+        i += 1;
+    }
+}
+
+// The same for a path that is 0 from `depth` on.
+pub fn move_down(numbers: &[u8; MAX_ORDER], path: &mut [u8; MAX_ORDER], depth: u8, last: u8)
+    requires { ⌜ Numbers (now numbers) × (length (now path) ≡ 64) × RestZero (now path) depth ⌝ }
+    ensures { λ _. ⌜ Moved (now (path .entry)) depth last (now (path .exit)) ⌝ }
+{
+    let mut i = 0;
+    while i < MAX_ORDER {
+        let mut entry = path[i];
+        if numbers[i] == depth {
+            entry = last;
+        }
+        path[i] = entry;
+        i += 1;
+    }
+}
+
+// The first child: the row at `depth`, from which on `rows` rows have a candidate, takes its least candidate, or is left out.
+pub fn descend(
+    numbers: &[u8; MAX_ORDER],
+    path: &mut [u8; MAX_ORDER],
+    trail: &mut [usize; MAX_ORDER],
+    workspace: &[u64],
+    depth: usize,
+    pairs: usize,
+    rows: usize,
+) -> Place
+    requires { ⌜ Numbers (now numbers) × (length (now path) ≡ 64) × (length (now trail) ≡ 64) × (4160 ≤ length (now workspace)) ⌝ }
+    requires { ⌜ (depth < 64) × (pairs ≤ depth) × (rows ≡ openRows depth pairs (now workspace)) × RestZero (now path) depth ⌝ }
+    ensures child { λ r. ⌜ ((P : Problem) → SoundProblem P → depth < P .old .order
         → AtNode P (now (path .entry)) depth pairs (now (workspace .entry)) → Words P (now (path .entry)) depth (now (workspace .entry))
         → Descends P (now (path .entry)) depth (now (workspace .entry)) r (now (path .exit))) ⌝ }
+    ensures trail { λ r. ⌜ (pairs ≡ size (take depth (now (path .entry)))
+        → Trail (now (path .entry)) depth (now (trail .entry)) (now (workspace .entry))
+        → Trail (now (path .exit)) (r .depth) (now (trail .exit)) (now (workspace .entry))) ⌝ }
+    ensures later { λ r. ⌜ ((n : ℕ) → ExactSet n pairs (now (workspace .entry))
+        → OpenIs (r .depth) (r .pairs) (r .last) (r .later) (now (workspace .entry))) ⌝ }
+    ensures last { λ r. ⌜ LastIs (now (path .exit)) (r .depth) (r .last) ⌝ }
 {
     match bitset::least_member(words::level_word(workspace, pairs, OldVertex(depth))) {
         Least::Member(v) => {
-            path[depth] = (v % 256) as u8;
+            let later = rows - 1;
+            trail[pairs] = 4096 * later + 64 * depth + v;
+            let value = (v % 256) as u8;
+            move_down(numbers, path, ((depth + 1) % 256) as u8, value);
             Place {
                 depth: depth + 1,
                 pairs: pairs + 1,
                 finished: false,
+                last: value,
+                later,
             }
         }
         Least::Empty => {
-            path[depth] = UNMAPPED;
+            move_down(numbers, path, ((depth + 1) % 256) as u8, UNMAPPED);
             Place {
                 depth: depth + 1,
                 pairs,
                 finished: false,
+                last: UNMAPPED,
+                later: rows,
             }
         }
     }
 }
 
-// The nearest later sibling of the node or of an ancestor: rows left out, which are no pairs, are passed, and the last pair takes its next
-// candidate, or is left out. The entries passed become 0.
-pub fn retreat(path: &mut [u8; MAX_ORDER], workspace: &[u64], depth: usize, pairs: usize) -> Place
-    requires { ⌜ (length (now path) ≡ 64) × (4160 ≤ length (now workspace)) × (depth ≤ 64) × (pairs ≡ size (take depth (now path))) ⌝ }
-    requires { ⌜ ((k : ℕ) → k < depth → (getD (now path) k 0 ≡ unmapped) ⊎ (getD (now path) k 0 < 64)) ⌝ }
-    ensures { λ r. ⌜ ((P : Problem) → SoundProblem P → AtNode P (now (path .entry)) depth pairs (now (workspace .entry))
+// The nearest later sibling of the node or of an ancestor: the last pair takes its next candidate, or is left out. The rows after it, which were
+// left out, have no later sibling.
+pub fn retreat(
+    numbers: &[u8; MAX_ORDER],
+    path: &mut [u8; MAX_ORDER],
+    trail: &mut [usize; MAX_ORDER],
+    workspace: &[u64],
+    pairs: usize,
+) -> Place
+    requires { ⌜ Numbers (now numbers) × (length (now path) ≡ 64) × (length (now trail) ≡ 64) × (4160 ≤ length (now workspace)) × (pairs ≤ 64) ⌝ }
+    ensures sibling { λ r. ⌜ ((P : Problem) (depth : ℕ) → SoundProblem P → AtNode P (now (path .entry)) depth pairs (now (workspace .entry))
+        → Trail (now (path .entry)) depth (now (trail .entry)) (now (workspace .entry))
         → Retreats P (now (path .entry)) depth (now (workspace .entry)) r (now (path .exit))) ⌝ }
+    ensures trail { λ r. ⌜ ((depth : ℕ) → depth ≤ 64 → pairs ≡ size (take depth (now (path .entry)))
+        → Trail (now (path .entry)) depth (now (trail .entry)) (now (workspace .entry))
+        → Trail (now (path .exit)) (r .depth) (now (trail .exit)) (now (workspace .entry))
+        × OpenIs (r .depth) (r .pairs) (r .last) (r .later) (now (workspace .entry))) ⌝ }
+    ensures last { λ r. ⌜ LastIs (now (path .exit)) (r .depth) (r .last) ⌝ }
 {
-    let mut k = depth;
-    while 0 < k {
-        let row = k - 1;
-        let last = path[row];
-        if last != UNMAPPED {
-            let before = pairs - 1;
-            match bitset::least_above(
-                words::level_word(workspace, before, OldVertex(row)),
-                last as usize,
-            ) {
-                Least::Member(v) => {
-                    path[row] = (v % 256) as u8;
-                    return Place {
-                        depth: k,
-                        pairs,
-                        finished: false,
-                    };
-                }
-                Least::Empty => {
-                    path[row] = UNMAPPED;
-                    return Place {
-                        depth: k,
-                        pairs: before,
-                        finished: false,
-                    };
-                }
+    if pairs == 0 {
+        move_back(numbers, path, 0, UNMAPPED);
+        return Place {
+            depth: 0,
+            pairs: 0,
+            finished: true,
+            last: UNMAPPED,
+            later: words::count_open(workspace, 0, 0),
+        };
+    }
+    let before = pairs - 1;
+    let pair = trail[before];
+    let later = pair / 4096 % 128;
+    let row = pair / 64 % 64;
+    match bitset::least_above(
+        words::level_word(workspace, before, OldVertex(row)),
+        pair % 64,
+    ) {
+        Least::Member(v) => {
+            trail[before] = 4096 * later + 64 * row + v;
+            let value = (v % 256) as u8;
+            move_back(numbers, path, ((row + 1) % 256) as u8, value);
+            Place {
+                depth: row + 1,
+                pairs,
+                finished: false,
+                last: value,
+                later,
             }
         }
-        path[row] = 0;
-        k = row;
-    }
-    Place {
-        depth: 0,
-        pairs: 0,
-        finished: true,
+        Least::Empty => {
+            move_back(numbers, path, ((row + 1) % 256) as u8, UNMAPPED);
+            Place {
+                depth: row + 1,
+                pairs: before,
+                finished: false,
+                last: UNMAPPED,
+                later,
+            }
+        }
     }
 }
 
@@ -161,13 +260,17 @@ impl Walk {
         edges: &[u8],
         masks: &[u64],
         first: &[u64; MAX_ORDER],
+        numbers: &[u8; MAX_ORDER],
+        trail: &mut [usize; MAX_ORDER],
         workspace: &mut [u64],
     ) -> Walk
         requires { ⌜ Resumes order (now edges) (now masks) (now first) self (now workspace) ⌝ }
-        requires { ⌜ (self .checkpoint .finished ≡ false) × (self .checkpoint .steps + 1 < 2 ^ 64) ⌝ }
-        ensures { λ r. ⌜ ((P : Problem) → Setting P order (now (edges .entry)) (now (masks .entry)) → Ready P self (now (workspace .entry))
+        requires { ⌜ (self .checkpoint .finished ≡ false) × (self .checkpoint .steps + 1 < 2 ^ 64) × Numbers (now numbers)
+            × Trail (self .checkpoint .path) (self .checkpoint .depth) (now trail) (now workspace) ⌝ }
+        ensures visited { λ r. ⌜ ((P : Problem) → Setting P order (now (edges .entry)) (now (masks .entry)) → Ready P self (now (workspace .entry))
             → Arrives P (self .checkpoint .minimum)
             (visit (searchOf P) (self .checkpoint .minimum) (stateOf (P .old .order) (self .checkpoint))) r (now (workspace .exit))) ⌝ }
+        ensures trail { λ r. ⌜ Trail (r .checkpoint .path) (r .checkpoint .depth) (now (trail .exit)) (now (workspace .exit)) ⌝ }
     {
         let minimum = self.checkpoint.minimum;
         let steps = self.checkpoint.steps + 1;
@@ -181,25 +284,36 @@ impl Walk {
             depth,
             pairs,
             finished: false,
+            last: 0,
+            later: 0,
         };
         if self.bound < cutoff {
-            place = retreat(&mut path, workspace, depth, pairs);
+            place = retreat(numbers, &mut path, trail, workspace, pairs);
         } else if depth == order {
             holds = true;
             incumbent = path;
             cutoff = pairs + 1;
-            place = retreat(&mut path, workspace, depth, pairs);
+            place = retreat(numbers, &mut path, trail, workspace, pairs);
         } else {
-            place = descend(&mut path, workspace, depth, pairs);
+            place = descend(
+                numbers,
+                &mut path,
+                trail,
+                workspace,
+                depth,
+                pairs,
+                self.bound - pairs,
+            );
         }
         let bound = upper_bound(
             edges,
             masks,
             first,
-            &path,
             workspace,
             place.depth,
             place.pairs,
+            place.last,
+            place.later,
             cutoff,
         );
         Walk {
@@ -226,13 +340,15 @@ pub fn start(
     edges: &[u8],
     masks: &[u64],
     first: &[u64; MAX_ORDER],
+    trail: &mut [usize; MAX_ORDER],
     workspace: &mut [u64],
 ) -> Walk
     requires { ⌜ InBounds (now edges) (now masks) (now first) (checkpoint .path) (checkpoint .depth)
         (size (take (checkpoint .depth) (checkpoint .path))) (now workspace) ⌝ }
-    requires { ⌜ (length (checkpoint .incumbent) ≡ 64) × (order ≤ 64) ⌝ }
-    ensures { λ r. ⌜ ((P : Problem) → Setting P order (now (edges .entry)) (now (masks .entry)) → InShape P checkpoint
+    requires { ⌜ (length (checkpoint .incumbent) ≡ 64) × (order ≤ 64) × (length (now trail) ≡ 64) ⌝ }
+    ensures starts { λ r. ⌜ ((P : Problem) → Setting P order (now (edges .entry)) (now (masks .entry)) → InShape P checkpoint
         → Words P (checkpoint .path) 0 (now (workspace .entry)) → Starts P checkpoint r (now (workspace .exit))) ⌝ }
+    ensures trail { λ _. ⌜ Trail (checkpoint .path) (checkpoint .depth) (now (trail .exit)) (now (workspace .exit)) ⌝ }
 {
     let depth = checkpoint.depth;
     let holds = checkpoint.holds;
@@ -243,7 +359,7 @@ pub fn start(
         cutoff = mapping::mapping_size(&incumbent[..order]) + 1;
     }
     let pairs = mapping::mapping_size(&path[..depth]);
-    rebuild(edges, masks, first, &path, workspace, depth);
+    rebuild(edges, masks, first, &path, trail, workspace, depth);
     // with 64 pairs no row is undecided
     let mut bound = pairs;
     if pairs < MAX_ORDER {
@@ -257,7 +373,8 @@ pub fn start(
     }
 }
 
-// As many visits as the budget says, fewer only if the search finishes.
+// As many visits as the budget says, fewer only if the search finishes. One way out: with more of them the compiler would keep the two arrays in
+// memory.
 pub fn run(
     walk: Walk,
     budget: u64,
@@ -265,48 +382,56 @@ pub fn run(
     edges: &[u8],
     masks: &[u64],
     first: &[u64; MAX_ORDER],
+    trail: &mut [usize; MAX_ORDER],
     workspace: &mut [u64],
 ) -> Walk
-    requires { ⌜ CountFits (walk .checkpoint) budget × Resumes order (now edges) (now masks) (now first) walk (now workspace) ⌝ }
+    requires { ⌜ CountFits (walk .checkpoint) budget × Resumes order (now edges) (now masks) (now first) walk (now workspace)
+        × Trail (walk .checkpoint .path) (walk .checkpoint .depth) (now trail) (now workspace) ⌝ }
     ensures { λ r. ⌜ ((P : Problem) → Setting P order (now (edges .entry)) (now (masks .entry)) → Ready P walk (now (workspace .entry))
         → Arrives P (walk .checkpoint .minimum)
         (visits (searchOf P) (walk .checkpoint .minimum) budget (stateOf (P .old .order) (walk .checkpoint))) r (now (workspace .exit))) ⌝ }
 {
-    let finished = walk.checkpoint.finished;
-    if finished {
-        return walk;
-    }
-    let last = walk.checkpoint.steps + budget;
     let mut at = walk;
+    let mut last = walk.checkpoint.steps;
+    let finished = walk.checkpoint.finished;
+    if !finished {
+        last = walk.checkpoint.steps + budget;
+    }
+    let numbers = row_numbers();
     while at.checkpoint.steps < last {
+        at = at.visit(order, edges, masks, first, &numbers, trail, workspace);
         let finished = at.checkpoint.finished;
         if finished {
-            return at;
+            last = at.checkpoint.steps;
         }
-        at = at.visit(order, edges, masks, first, workspace);
     }
     at
 }
 
-// The words of the path, from those of the root.
+// The words of the path, from those of the root, and its trail.
 pub fn rebuild(
     edges: &[u8],
     masks: &[u64],
     first: &[u64; MAX_ORDER],
     path: &[u8; MAX_ORDER],
+    trail: &mut [usize; MAX_ORDER],
     workspace: &mut [u64],
     depth: usize,
 )
     requires { ⌜ InBounds (now edges) (now masks) (now first) (now path) depth (size (take depth (now path))) (now workspace) ⌝ }
-    ensures { λ _. ⌜ ((P : Problem) → Setting P (P .old .order) (now (edges .entry)) (now (masks .entry)) → depth ≤ P .old .order
+    requires { ⌜ length (now trail) ≡ 64 ⌝ }
+    ensures words { λ _. ⌜ ((P : Problem) → Setting P (P .old .order) (now (edges .entry)) (now (masks .entry)) → depth ≤ P .old .order
         → Reached (rulesOf P) (take depth (now (path .entry))) → Words P (now (path .entry)) 0 (now (workspace .entry))
         → Words P (now (path .entry)) depth (now (workspace .exit))) ⌝ }
+    ensures trail { λ _. ⌜ Trail (now (path .entry)) depth (now (trail .exit)) (now (workspace .exit)) ⌝ }
 {
     let mut row = 0;
     let mut pairs = 0;
     while row < depth {
         let value = path[row];
         if value != UNMAPPED {
+            let later = words::count_open(workspace, row + 1, pairs);
+            trail[pairs] = 4096 * later + 64 * row + value as usize;
             words::refine(
                 edges,
                 masks,
@@ -315,6 +440,7 @@ pub fn rebuild(
                 OldVertex(row),
                 pairs,
                 NewVertex(value as usize),
+                later,
                 0,
             );
             pairs += 1;

@@ -141,8 +141,8 @@ pub struct Kept {
     pub count: usize,
 }
 
-// Of the rows `near` each word meets the mask of its edge to `row`, which took `value` after `pairs` pairs. Left as soon as
-// fewer than `need` rows are left.
+// Of the rows `near` each word meets the mask of its edge to `row`, which took `value` after `pairs` pairs. No turn asks whether enough rows are
+// left: a way out of the midst would be hard to foresee.
 pub fn meet_near(
     edges: &[u8],
     masks: &[u64],
@@ -152,12 +152,11 @@ pub fn meet_near(
     value: NewVertex,
     near: u64,
     kept: Kept,
-    need: usize,
 ) -> Kept
     requires { ⌜ (length (now edges) ≡ 4096) × (length (now masks) ≡ 16384) × (4160 ≤ length (now workspace)) ⌝ }
     requires { ⌜ (row .0 < 64) × (pairs < 63) × (value .0 < 64) × (size near ≤ kept .count) ⌝ }
     ensures { λ r. ⌜ Met near (nearWord (now (edges .entry)) (now (masks .entry)) (row .0) pairs (value .0) (now (workspace .entry)))
-        (pairs + 1) need (now (workspace .entry)) kept (now (workspace .exit)) r ⌝ }
+        (pairs + 1) 0 (now (workspace .entry)) kept (now (workspace .exit)) r ⌝ }
 {
     let from = row.0;
     let mut rest = near;
@@ -176,9 +175,6 @@ pub fn meet_near(
                     left -= 1;
                 } else {
                     rows = bitset::with(rows, r);
-                }
-                if left < need {
-                    return Kept { rows, count: left };
                 }
             }
             Least::Empty => {
@@ -227,8 +223,8 @@ pub fn meet_far(
 }
 
 // The words after `row`, with `pairs` pairs before it, took `value`: the word of each later row that has one meets the mask of its edge to
-// `row`, those in `first` before the others, which have no edge to it. Returns how many of them are not empty, or, once fewer than `need` can
-// be, a number below `need`. After 64 pairs there is no later row.
+// `row`, those in `first` before the others, which have no edge to it. `count` later rows have a word. Returns how many of them keep one, or, once
+// fewer than `need` can, a number below `need`. After 64 pairs there is no later row.
 pub fn refine(
     edges: &[u8],
     masks: &[u64],
@@ -237,10 +233,12 @@ pub fn refine(
     row: OldVertex,
     pairs: usize,
     value: NewVertex,
+    count: usize,
     need: usize,
 ) -> usize
     requires { ⌜ (length (now edges) ≡ 4096) × (length (now masks) ≡ 16384) × (4160 ≤ length (now workspace)) ⌝ }
-    requires { ⌜ (row .0 < 64) × (pairs ≤ row .0) × (value .0 < 64) × Covers (now edges) (row .0) first ⌝ }
+    requires { ⌜ (row .0 < 64) × (pairs ≤ row .0) × (value .0 < 64) × Covers (now edges) (row .0) first
+        × (count ≡ openRows (row .0 + 1) pairs (now workspace)) ⌝ }
     ensures { λ r. ⌜ Counted (now (edges .entry)) (now (masks .entry)) (row .0) pairs (value .0) need (now (workspace .entry)) (now (workspace .exit)) r ⌝ }
 {
     if pairs == 63 {
@@ -248,11 +246,8 @@ pub fn refine(
     }
     let open = bitset::members_from(workspace[OPEN_SETS + pairs], row.0 + 1);
     let near = bitset::meet(open, first);
-    let all = Kept {
-        rows: 0,
-        count: bitset::size(open) as usize,
-    };
-    let met = meet_near(edges, masks, workspace, row, pairs, value, near, all, need);
+    let all = Kept { rows: 0, count };
+    let met = meet_near(edges, masks, workspace, row, pairs, value, near, all);
     if met.count < need {
         return met.count;
     }

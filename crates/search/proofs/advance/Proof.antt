@@ -36,10 +36,10 @@ abbrev at-root : tie.After-all-first → tie.After-root-words
 at-root c = c .before .before .before
 
 abbrev at-later : tie.After-start → tie.After-all-first
-at-later c = c .before .before .before .before
+at-later c = c .before .before .before .before .before
 
 abbrev at-start : tie.After-run → tie.After-start
-at-start c = c .before .before .before .before .before .before
+at-start c = c .before .before .before .before .before .before .before
 
 abbrev at-run : tie.After-ceiling → tie.After-run
 at-run c = c .before .before .before .before .before .before
@@ -105,20 +105,20 @@ root-whole c = c .root-words .kept .1 .1 .0 ∙ at-entry (at-masks c) .pre .1 .1
 
 start-requires : tie.Need-start-requires
 start-requires c κs =
-    let later = c .before .before .before in
+    let later = c .before .before .before .before in
     let masks = at-masks (at-root later) in
     let g = given (at-entry masks) in (
       call-bounds g (masks .fill-masks .ensures) (later .all-first .ensures) (omega (arith, root-whole (at-root later))),
-      (g .incumbent-long, g .sound .old-sound .order-max),
+      (g .incumbent-long, g .sound .old-sound .order-max, refl),
     )
 
 -- the walk at its start is ready for a visit
 started : (c : tie.After-start)
-    → let s = begin c in Starts (asked s) (s .args .checkpoint) (c .start .result) (c .start .last .1 .1 .1 .1 .1 .0)
+    → let s = begin c in Starts (asked s) (s .args .checkpoint) (c .start .result) (c .start .last .1 .1 .1 .1 .1 .1 .0)
 started c =
     let root = at-root (at-later c) in
     let s = begin c in
-    c .start .ensures (asked s) (setting (at-masks root)) (s .pre .1 .0)
+    c .start .ensures .0 (asked s) (setting (at-masks root)) (s .pre .1 .0)
     (root-words (asked s) (s .pre .0)
     (root .root-words .ensures (asked s) refl (allowing-allowed (s .args .t1) (s .args .labels) (s .args .t3) (s .args .substitutes .now) (s .pre .0) (at-allowed root .allowed-sets .ensures))) (s .args .checkpoint .path))
 
@@ -127,7 +127,7 @@ slice-aggregate-run c = sym (at-masks (at-root (at-later (c .before .before .bef
 
 run-requires : tie.Need-run-requires
 run-requires c κs =
-    let start = c .before .before .before .before .before in
+    let start = c .before .before .before .before .before .before in
     let later = at-later start in
     let s = begin start in (
       rw (started start .checkpoint-is) (start-count (s .args .checkpoint) (s .args .budget) (s .pre .1 .1 .1)),
@@ -137,13 +137,14 @@ run-requires c κs =
         first-are = later .all-first .ensures;
         ready = started start .ready;
       },
+      rw (started start .checkpoint-is) (start .start .ensures .1),
     )
 
 -- the visits are made
 made : (c : tie.After-run)
     → let start = at-start c in let s = begin start in let k = start .start .result .checkpoint in
     Arrives (asked s) (k .minimum) (visits (searchOf (asked s)) (k .minimum) (s .args .budget) (stateOf (asked s .old .order) k)) (c .run .result)
-    (c .run .last .1 .1 .1 .1 .1 .1 .0)
+    (c .run .last .1 .1 .1 .1 .1 .1 .1 .0)
 made c =
     let start = at-start c in
     c .run .ensures (asked (begin start)) (setting (at-masks (at-root (at-later start)))) (started start .ready)
@@ -161,7 +162,7 @@ ceiling-whole : (c : tie.After-ceiling) → length (c .ceiling .last .1 .1 .1 .1
 ceiling-whole c =
     let run = at-run c in
     let start = at-start run in
-    c .ceiling .kept .1 .1 .1 .1 .0 ∙ run .run .kept .1 .1 .1 .1 .1 .1 .0 ∙ start .start .kept .1 .1 .1 .1 .1 .0 ∙ root-whole (at-root (at-later start))
+    c .ceiling .kept .1 .1 .1 .1 .0 ∙ run .run .kept .1 .1 .1 .1 .1 .1 .1 .0 ∙ start .start .kept .1 .1 .1 .1 .1 .1 .0 ∙ root-whole (at-root (at-later start))
 
 clear-words-requires : tie.Need-clear-words-requires
 clear-words-requires c κs = omega (arith, ceiling-whole (c .before .before .before))

@@ -10,18 +10,18 @@ use Rattle.bitset.specs.Least.{leastAbove}
 use Rattle.bitset.specs.declared.Least.the-variants.{Member}
 use Rattle.bitset.proofs.LeastBelow.{leastAbove-Member}
 use Rattle.search.specs.Words.{levelWord, SameLevels, meetRows}
-use Rattle.search.proofs.Levels.{same-none, same-more, meetRows-same}
+use Rattle.search.proofs.Levels.{same-none, same-more, openRows-same, meetRows-same}
 use Rattle.search.proofs.NodeWords.{openRows-max, meetRows-max}
 use Rattle.search.proofs.RowTop.{RowHead, row-first, row-more, row-all}
 use Rattle.search.proofs.ceiling.row_top.Statement.{statement}
 use Rattle.search.proofs.ceiling.row_top.Tie as tie
 
 abbrev Inv-loop : tie.InvT-loop
-Inv-loop edges masks neighbours workspace₀ row pairs word top₀ last₀ workspace top last =
+Inv-loop edges masks neighbours workspace₀ row pairs word open₀ top₀ last₀ workspace top last =
     RowHead edges masks workspace₀ (row .0) pairs last₀ top last × SameLevels pairs workspace₀ workspace
 
 abbrev μ-loop : tie.MeasureT-loop
-μ-loop edges masks neighbours workspace₀ row pairs word top₀ last₀ workspace top last = 64 - last
+μ-loop edges masks neighbours workspace₀ row pairs word open₀ top₀ last₀ workspace top last = 64 - last
 
 -- the function's entry, from the loop's head
 abbrev entry : tie.At-loop Inv-loop μ-loop → tie.Start Inv-loop μ-loop
@@ -34,14 +34,14 @@ rowWord c = let a = entry c .args in levelWord (a .workspace .now) (a .pairs) (a
 level-word-requires : tie.Need-level-word-requires Inv-loop μ-loop
 level-word-requires c κs = search needs
 
-add-top : tie.Need-add-top Inv-loop μ-loop
-add-top c = search needs
-
 add-count-open : tie.Need-add-count-open Inv-loop μ-loop
 add-count-open c = search needs
 
 count-open-requires : tie.Need-count-open-requires Inv-loop μ-loop
 count-open-requires c κs = search needs
+
+add-top : tie.Need-add-top Inv-loop μ-loop
+add-top c = search needs
 
 add-top-2 : tie.Need-add-top-2 Inv-loop μ-loop
 add-top-2 c =
@@ -79,8 +79,17 @@ refine-requires c κs =
     let start = entry (c .before .before .before .before .before) in
     let least = leastAbove-Member _ _ (member (c .before)) in
     let pre = start .pre in
-    let kept = c .before .before .before .before .before .loop .inv .1 .words in
-    ((pre .0 .0, pre .0 .1, omega arith), (pre .1 .0, pre .1 .1, least .below, pre .1 .3))
+    let head = c .before .before .before .before .before in
+    let kept = head .loop .inv .1 .words in (
+      (pre .0 .0, pre .0 .1, omega arith),
+      (
+        pre .1 .0,
+        pre .1 .1,
+        least .below,
+        pre .1 .3,
+        head .before .count-open .ensures ∙ sym (openRows-same (head .loop .inv .1) (start .args .row .0 + 1) (start .args .pairs) (le-refl _)),
+      ),
+    )
 
 -- the rows counted are those foretold from the level at entry
 counted : (c : tie.After-refine Inv-loop μ-loop)
@@ -141,9 +150,9 @@ row-top-spec =
     Inv-loop
     μ-loop
     level-word-requires
-    add-top
     add-count-open
     count-open-requires
+    add-top
     add-top-2
     loop-holds
     least-above-requires

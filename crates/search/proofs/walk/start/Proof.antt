@@ -52,11 +52,13 @@ mapping-size-requires-2 : tie.Need-mapping-size-requires-2
 mapping-size-requires-2 c κs = search needs
 
 rebuild-requires : tie.Need-rebuild-requires
-rebuild-requires c κs = c .before .before .before .before .before .before .before .before .before .before .before .pre .0
+rebuild-requires c κs =
+    let s = c .before .before .before .before .before .before .before .before .before .before .before .before in
+    (s .pre .0, s .pre .1 .2)
 
 -- the way back from the rebuilt words
 abbrev entry : tie.After-rebuild → tie.Start
-entry c = c .before .before .before .before .before .before .before .before .before .before .before .before
+entry c = c .before .before .before .before .before .before .before .before .before .before .before .before .before
 
 -- the cutoff counted is the state's
 cutoff-is : (c : tie.After-mapping-size2) {P : Problem} {edges masks : List ℕ}
@@ -72,12 +74,12 @@ count-open-requires : tie.Need-count-open-requires
 count-open-requires c κs = search needs
 
 -- the pairs are those of the path, and no more than 64
-pairs-max : (c : tie.After-slice-known2) → c .before .before .before .before .before .mapping-size2 .result ≤ 64
+pairs-max : (c : tie.After-slice-known2) → c .before .before .before .before .before .before .mapping-size2 .result ≤ 64
 pairs-max c =
     let s = entry (c .before .before) in
     omega (
       arith,
-      c .before .before .before .before .before .mapping-size2 .ensures,
+      c .before .before .before .before .before .before .mapping-size2 .ensures,
       size-take-max (s .args .checkpoint .path) (s .args .checkpoint .depth),
       s .pre .0 .depth-max,
     )
@@ -86,8 +88,8 @@ add-bound : tie.Need-add-bound
 add-bound c =
     let known = c .before .before .before in
     let rebuild = known .before .before in
-    let pairs = rebuild .before .before .before .mapping-size2 .result in
-    let few = openRows-max (entry rebuild .args .checkpoint .depth) pairs (rebuild .rebuild .last .1 .1 .1 .1 .0) in
+    let pairs = rebuild .before .before .before .before .mapping-size2 .result in
+    let few = openRows-max (entry rebuild .args .checkpoint .depth) pairs (rebuild .rebuild .last .1 .1 .1 .1 .1 .0) in
     omega (arith, pairs-max known, c .count-open .ensures)
 
 same-length : tie.Need-same-length
@@ -97,14 +99,16 @@ returns : tie.Need-returns
 returns c =
     let known = c .before .before .before in
     let rebuild = known .before .before in
-    let counted = rebuild .before .before .before in
-    let s = entry rebuild in
-    λ P setting shape words.
-    let start : Accepted P (s .args .checkpoint) =
-    record { sound = setting .sound; shape = shape; path-long = s .pre .0 .path-length; incumbent-long = s .pre .1 .0 } in
-    call-starts start setting (omega (arith, s .pre .0 .room, rebuild .rebuild .kept .1 .1 .1 .1 .0)) (counted .mapping-size2 .ensures)
-    (rebuild .rebuild .ensures P (own-order setting) (shape .depth-max) (shape-reached start) words) (cutoff-is counted setting)
-    (inl (c .before .before .if2 .taken, ap (λ (k : ℕ). counted .mapping-size2 .result + k) (c .count-open .ensures)))
+    let counted = rebuild .before .before .before .before in
+    let s = entry rebuild in (
+      λ P setting shape words.
+          let start : Accepted P (s .args .checkpoint) =
+          record { sound = setting .sound; shape = shape; path-long = s .pre .0 .path-length; incumbent-long = s .pre .1 .0 } in
+          call-starts start setting (omega (arith, s .pre .0 .room, rebuild .rebuild .kept .1 .1 .1 .1 .1 .0)) (counted .mapping-size2 .ensures)
+          (rebuild .rebuild .ensures .0 P (own-order setting) (shape .depth-max) (shape-reached start) words) (cutoff-is counted setting)
+          (inl (c .before .before .if2 .taken, ap (λ (k : ℕ). counted .mapping-size2 .result + k) (c .count-open .ensures))),
+      rebuild .rebuild .ensures .1,
+    )
 
 same-length-2 : tie.Need-same-length-2
 same-length-2 c = search needs
@@ -113,14 +117,16 @@ returns-2 : tie.Need-returns-2
 returns-2 c =
     let known = c .before in
     let rebuild = known .before .before in
-    let counted = rebuild .before .before .before in
-    let s = entry rebuild in
-    λ P setting shape words.
-    let start : Accepted P (s .args .checkpoint) =
-    record { sound = setting .sound; shape = shape; path-long = s .pre .0 .path-length; incumbent-long = s .pre .1 .0 } in
-    call-starts start setting (omega (arith, s .pre .0 .room, rebuild .rebuild .kept .1 .1 .1 .1 .0)) (counted .mapping-size2 .ensures)
-    (rebuild .rebuild .ensures P (own-order setting) (shape .depth-max) (shape-reached start) words) (cutoff-is counted setting)
-    (inr (c .if2 .left, refl))
+    let counted = rebuild .before .before .before .before in
+    let s = entry rebuild in (
+      λ P setting shape words.
+          let start : Accepted P (s .args .checkpoint) =
+          record { sound = setting .sound; shape = shape; path-long = s .pre .0 .path-length; incumbent-long = s .pre .1 .0 } in
+          call-starts start setting (omega (arith, s .pre .0 .room, rebuild .rebuild .kept .1 .1 .1 .1 .1 .0)) (counted .mapping-size2 .ensures)
+          (rebuild .rebuild .ensures .0 P (own-order setting) (shape .depth-max) (shape-reached start) words) (cutoff-is counted setting)
+          (inr (c .if2 .left, refl)),
+      rebuild .rebuild .ensures .1,
+    )
 
 pub start-spec : {M : Type 1} → statement M
 start-spec =

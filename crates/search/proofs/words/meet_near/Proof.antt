@@ -1,26 +1,25 @@
 -- `search::words::meet_near` meets its contract: the rows left are met one by one (`MeetTurn`). What is read, at the level before, is never written.
 -- Assumes nothing.
 use mathlib.Core.Path.{_≡_, ap, sym, _∙_}
-use mathlib.Core.Logic.{⊎-elim}
 use Prim.Native.Nat.{ℕ, _+_, _*_, _<_}
 use native.Mathlib.Omega.{arith}
-use lib.ListN.{getD, set}
+use lib.ListN.{getD}
 use borrow.Author.Needs.{needs}
 use Rattle.bitset.specs.Members.{meetOf}
 use Rattle.bitset.specs.Least.{leastMember}
 use Rattle.bitset.specs.declared.Least.the-variants.{Member}
 use Rattle.graph.specs.Graph.{place}
 use Rattle.search.specs.Words.{nearWord}
-use Rattle.search.proofs.MeetTurn.{MetTo, met-none, next-row, left-falls, not-none, met-stored, met-more, met-lost, met-few, met-all}
+use Rattle.search.proofs.MeetTurn.{MetTo, met-none, next-row, left-falls, not-none, met-stored, met-more, met-lost, met-all}
 use Rattle.search.proofs.words.meet_near.Statement.{statement}
 use Rattle.search.proofs.words.meet_near.Tie as tie
 
 abbrev Inv-loop : tie.InvT-loop
-Inv-loop edges masks workspace₀ pairs value near need from rest₀ rows₀ left₀ workspace rest rows left =
+Inv-loop edges masks workspace₀ pairs value near from rest₀ rows₀ left₀ workspace rest rows left =
     MetTo near (nearWord edges masks from pairs (value .0) workspace₀) (pairs + 1) workspace₀ rows₀ left₀ workspace rest rows left
 
 abbrev μ-loop : tie.MeasureT-loop
-μ-loop edges masks workspace₀ pairs value near need from rest₀ rows₀ left₀ workspace rest rows left = rest
+μ-loop edges masks workspace₀ pairs value near from rest₀ rows₀ left₀ workspace rest rows left = rest
 
 -- the loop's head, from the row found
 abbrev head : tie.After-known-told Inv-loop μ-loop → tie.At-loop Inv-loop μ-loop
@@ -55,27 +54,6 @@ word-is c =
     let mask = getD (a .masks .now) (256 * a .value .0 + getD (a .edges .now) (place (a .row .0) r) 0) 0 in
     c .meet .ensures
     ∙ ap (λ (s : ℕ). meetOf s mask) (head told .loop .inv .others (64 * a .pairs + r) (λ m h own e. omega (arith, inside told)))
-
--- the row is met, and its word stored
-turned : (c : tie.Joined1 Inv-loop μ-loop)
-    → (let met = c .before .before .before in
-    let told = met .before .before .before .before .before in
-    let a = entry told .args in
-    MetTo (a .near) (nearWord (a .edges .now) (a .masks .now) (a .row .0) (a .pairs) (a .value .0) (a .workspace .now)) (a .pairs + 1) (a .workspace .now)
-    (a .kept .rows) (a .kept .count)
-    (set (head told .loop .workspace) (64 * a .pairs + told .before .r .given .0 .0 + 64) (met .meet .result))
-    (c .before .before .without-least .result) (c .if1 .rows) (c .if1 .left))
-turned c =
-    let met = c .before .before .before in
-    let told = met .before .before .before .before .before in
-    let inv = head told .loop .inv in
-    let tested = c .before .is-empty .ensures in
-    rw (c .before .before .without-least .ensures)
-    (⊎-elim
-    (λ w. rw (w .1, w .2)
-    (met-lost (met-stored inv (found told) (met .meet .result) (omega arith)) (found told) (word-is met) (sym tested ∙ w .0 .taken)))
-    (λ w. rw (w .2, w .3, w .1 .ensures) (met-more inv (found told) (omega arith) (omega (arith, inside told)) (word-is met) (sym tested ∙ w .0 .left)))
-    (c .if1 .came))
 
 loop-holds : tie.Need-loop-holds Inv-loop μ-loop
 loop-holds c = met-none (omega (arith, c .before .before .before .fits)) (c .before .before .before .pre .1 .3)
@@ -145,32 +123,50 @@ sub-left c =
     let told = c .before .before .before .before .before .before .before .before in
     omega (arith, not-none (head told .loop .inv) (found told))
 
-with-requires : tie.Need-with-requires Inv-loop μ-loop
-with-requires c κs = search needs
-
-same-length : tie.Need-same-length Inv-loop μ-loop
-same-length c = turned (c .before) .words
-
-returns : tie.Need-returns Inv-loop μ-loop
-returns c = met-few (turned (c .before)) (c .if2 .taken)
-
-loop-less : tie.Need-loop-less Inv-loop μ-loop
-loop-less c =
-    let left = c .before .before .before in
+-- each turn leaves less
+falls : (c : tie.After-is-empty Inv-loop μ-loop)
+    → (let left = c .before in
+    left .without-least .result < head (left .before .before .before .before .before .before) .loop .rest)
+falls c =
+    let left = c .before in
     let told = left .before .before .before .before .before .before in
     rw (left .without-least .ensures) (left-falls (head told .loop .inv) (found told))
 
+loop-less : tie.Need-loop-less Inv-loop μ-loop
+loop-less c = falls (c .before)
+
 loop-again : tie.Need-loop-again Inv-loop μ-loop
-loop-again c = turned (c .before)
+loop-again c =
+    let tested = c .before in
+    let met = tested .before .before in
+    let told = met .before .before .before .before .before in
+    rw (tested .before .without-least .ensures)
+    (met-lost (met-stored (head told .loop .inv) (found told) (met .meet .result) (omega arith)) (found told) (word-is met)
+    (sym (tested .is-empty .ensures) ∙ c .if1 .taken))
+
+with-requires : tie.Need-with-requires Inv-loop μ-loop
+with-requires c κs = search needs
+
+loop-less-2 : tie.Need-loop-less-2 Inv-loop μ-loop
+loop-less-2 c = falls (c .before .before)
+
+loop-again-2 : tie.Need-loop-again-2 Inv-loop μ-loop
+loop-again-2 c =
+    let tested = c .before .before in
+    let met = tested .before .before in
+    let told = met .before .before .before .before .before in
+    rw (tested .before .without-least .ensures, c .with .ensures)
+    (met-more (head told .loop .inv) (found told) (omega arith) (omega (arith, inside told, entry told .pre)) (word-is met)
+    (sym (tested .is-empty .ensures) ∙ c .before .if1 .left))
 
 enum-told : tie.Need-enum-told Inv-loop μ-loop
 enum-told c = search needs
 
-same-length-2 : tie.Need-same-length-2 Inv-loop μ-loop
-same-length-2 c = c .before .before .before .loop .inv .words
+same-length : tie.Need-same-length Inv-loop μ-loop
+same-length c = c .before .before .before .loop .inv .words
 
-returns-2 : tie.Need-returns-2 Inv-loop μ-loop
-returns-2 c =
+returns : tie.Need-returns Inv-loop μ-loop
+returns c =
     met-all (c .before .before .before .loop .inv) (sym (c .before .before .least-member .ensures) ∙ c .enum-told .given .1)
 
 pub meet-near-spec : {M : Type 1} → statement M
@@ -201,11 +197,11 @@ meet-near-spec =
     without-least-requires
     is-empty-requires
     sub-left
-    with-requires
-    same-length
-    returns
     loop-less
     loop-again
+    with-requires
+    loop-less-2
+    loop-again-2
     enum-told
-    same-length-2
-    returns-2)
+    same-length
+    returns)
