@@ -24,8 +24,9 @@ ghost use Rattle.search.specs.Walking.{Setting, AtNode, InBounds, Ready,
 ghost use Rattle.search.specs.Walking.{RestZero, Moved, Numbers, Trail, OpenIs, LastIs, Placed};
 ghost use Rattle.search.specs.Call.{visits};
 
-// The trail that is lent along with the workspace has the pairs on the path, each at the number of pairs before it, so that no visit reads the path:
-// 4096 times the number of later rows that had a candidate before the pair was met, 64 times its row, and its value.
+// The trail that is lent along with the workspace has the pairs on the path, each at the number of pairs before it, so that no visit reads the path. A
+// pair is one number: its value, its row times MAX_ORDER, and how many later rows had a candidate before it was met, times LATER.
+const LATER: usize = MAX_ORDER * MAX_ORDER;
 
 // Where the walk stands: the next node's depth and number of pairs, or finished at depth 0. `last` is its last row's entry, and `later` tells how
 // many rows after it have a candidate before that entry is met: where the row is left out, none is lost.
@@ -166,7 +167,7 @@ pub fn descend(
     match bitset::least_member(words::level_word(workspace, pairs, OldVertex(depth))) {
         Least::Member(v) => {
             let later = rows - 1;
-            trail[pairs] = 4096 * later + 64 * depth + v;
+            trail[pairs] = LATER * later + MAX_ORDER * depth + v;
             let value = (v % 256) as u8;
             move_down(numbers, path, ((depth + 1) % 256) as u8, value);
             Place {
@@ -221,14 +222,14 @@ pub fn retreat(
     }
     let before = pairs - 1;
     let pair = trail[before];
-    let later = pair / 4096 % 128;
-    let row = pair / 64 % 64;
+    let later = pair / LATER % 128;
+    let row = pair / MAX_ORDER % MAX_ORDER;
     match bitset::least_above(
         words::level_word(workspace, before, OldVertex(row)),
-        pair % 64,
+        pair % MAX_ORDER,
     ) {
         Least::Member(v) => {
-            trail[before] = 4096 * later + 64 * row + v;
+            trail[before] = LATER * later + MAX_ORDER * row + v;
             let value = (v % 256) as u8;
             move_back(numbers, path, ((row + 1) % 256) as u8, value);
             Place {
@@ -431,7 +432,7 @@ pub fn rebuild(
         let value = path[row];
         if value != UNMAPPED {
             let later = words::count_open(workspace, row + 1, pairs);
-            trail[pairs] = 4096 * later + 64 * row + value as usize;
+            trail[pairs] = LATER * later + MAX_ORDER * row + value as usize;
             words::refine(
                 edges,
                 masks,
