@@ -3,7 +3,7 @@ use mathlib.Core.Path.{_≡_, refl, sym, ap, _∙_}
 use mathlib.Core.Logic.{_≢_, ⊎-elim}
 use mathlib.Core.Bool.{true≢false}
 use mathlib.Core.List.{List}
-use Prim.Native.Nat.{ℕ, _+_, _-_, _*_, _/_, _%_, _^_, _≤_, _<_}
+use Prim.Native.Nat.{ℕ, _+_, _-_, _/_, _%_, _^_, _≤_, _<_}
 use native.Mathlib.Omega.{arith}
 use lib.ListN.{length, getD, take, set}
 use Rattle.bitset.specs.Members.{member}
@@ -15,7 +15,7 @@ use Rattle.bitset.proofs.LeastBelow.{leastBelow-Member, leastBelow-Empty}
 use Rattle.mapping.specs.Common.{unmapped, size}
 use Rattle.mapping.proofs.Size.{size-nil}
 use Rattle.search.specs.Words.{openRows}
-use Rattle.search.specs.Walking.{Moved, Trail, OpenIs}
+use Rattle.search.specs.Walking.{Moved, pairNumber, Trail, OpenIs}
 use Rattle.search.proofs.MovedPath.{moved-front, moved-last}
 use Rattle.search.proofs.NodeWords.{openRows-max}
 use Rattle.search.proofs.NextSibling.{Passed, passed-to, pairs-before}
@@ -29,7 +29,7 @@ pub record Found (path : List ℕ) (depth pairs : ℕ) (trail ws : List ℕ) : T
   pub inside : row < 64
   pub below : row < depth
   pub before : pairs - 1 ≡ size (take row path)
-  pub code : getD trail (pairs - 1) 0 ≡ 4096 * openRows (row + 1) (pairs - 1) ws + 64 * row + getD path row 0
+  pub code : getD trail (pairs - 1) 0 ≡ pairNumber (openRows (row + 1) (pairs - 1) ws) row (getD path row 0)
   pub small : getD path row 0 < 64
   pub few : openRows (row + 1) (pairs - 1) ws ≤ 64
 
@@ -83,7 +83,7 @@ module _ {path trail ws : List ℕ} {depth pairs : ℕ} (long : length path ≡ 
 
     -- The pair takes another value.
     pub trail-next : {v code : ℕ} {path′ : List ℕ} → v < 64 → Moved path (f .row + 1) v path′
-        → code ≡ 4096 * openRows (f .row + 1) (pairs - 1) ws + 64 * f .row + v → Trail path′ (f .row + 1) (set trail (pairs - 1) code) ws
+        → code ≡ pairNumber (openRows (f .row + 1) (pairs - 1) ws) (f .row) v → Trail path′ (f .row + 1) (set trail (pairs - 1) code) ws
     trail-next {v} {code} {path′} small moved is =
         let own : getD path′ (f .row) 0 ≡ v = moved-last long (f .inside) moved in
         trail-taken (moved .path-length) (f .inside) (f .before ∙ ap size (sym (moved-front long (f .inside) moved))) (omega arith)
@@ -107,7 +107,7 @@ module _ {path trail ws : List ℕ} {depth pairs : ℕ} (long : length path ≡ 
   own-front {v} {path′} moved = trail-same path path′ depth (sym (moved-front long inner moved)) t
 
   -- The next row takes a value.
-  pub trail-down : {v code : ℕ} {path′ : List ℕ} → v < 64 → Moved path (depth + 1) v path′ → code ≡ 4096 * openRows (depth + 1) pairs ws + 64 * depth + v
+  pub trail-down : {v code : ℕ} {path′ : List ℕ} → v < 64 → Moved path (depth + 1) v path′ → code ≡ pairNumber (openRows (depth + 1) pairs ws) depth v
       → Trail path′ (depth + 1) (set trail pairs code) ws
   trail-down {v} {code} {path′} small moved is =
       let own : getD path′ depth 0 ≡ v = moved-last long inner moved in

@@ -36,20 +36,6 @@ module _ {edges masks first path ws : List ℕ} {depth pairs : ℕ} (bounds : In
   inside : depth ≤ length path
   inside = omega (arith, bounds .path-length, bounds .depth-max)
 
-  -- A path's first entries are in bounds too, over a workspace as long.
-  pub bounds-shorter : {k left : ℕ} {ws′ : List ℕ} → k ≤ depth → left ≡ size (take k path) → length ws′ ≡ length ws
-      → InBounds edges masks first path k left ws′
-  bounds-shorter h e same = record {
-    edges-length = bounds .edges-length;
-    masks-length = bounds .masks-length;
-    first-are = bounds .first-are;
-    path-length = bounds .path-length;
-    room = omega (arith, bounds .room);
-    depth-max = omega (arith, bounds .depth-max);
-    pairs-are = e;
-    entry = λ i l. bounds .entry i (omega arith);
-  }
-
   -- Before the first level, all are left.
   pub levels-first : (least : ℕ) → LevelsHead edges masks path ws ws depth pairs least depth pairs least
   levels-first least = record { k-max = le-refl depth; left-is = bounds .pairs-are; kept = same-none pairs ws; tops = λ P setting node. omega arith }

@@ -3,7 +3,7 @@ use mathlib.Core.Path.{_≡_, refl, sym, ap, _∙_}
 use mathlib.Core.Logic.{_≢_, ⊎-elim}
 use mathlib.Core.Bool.{Bool, true, false, _&&_, and-false}
 use mathlib.Core.List.{List}
-use Prim.Native.Nat.{ℕ, _+_, _*_, _≤_, _<_}
+use Prim.Native.Nat.{ℕ, _+_, _≤_, _<_}
 use native.Mathlib.Nat.{eq-or-lt-of-le}
 use native.Mathlib.Decide.{ℕ-discrete, decLt}
 use native.Mathlib.Omega.{arith}
@@ -15,7 +15,7 @@ use Rattle.bitset.specs.Members.{member}
 use Rattle.bitset.proofs.CountBelow.{countBelow-congr, countBelow-one}
 use Rattle.mapping.specs.Common.{unmapped, size}
 use Rattle.search.specs.Words.{openSet, openRows, levelWord, ExactSet}
-use Rattle.search.specs.Walking.{Trail}
+use Rattle.search.specs.Walking.{pairNumber, Trail}
 use Rattle.search.proofs.Levels.{word-closed, exact-member}
 use Rattle.search.proofs.NodeWords.{size-take-max, size-mapped}
 use Rattle.search.proofs.WordLevels.{size-take-le}
@@ -92,7 +92,7 @@ trail-kept {path} {trail} {ws} {ws′} {d} inside same t = record {
   value = t .value;
   pair = λ k l mapped.
       t .pair k l mapped
-      ∙ ap (λ (n : ℕ). 4096 * n + 64 * k + getD path k 0) (openRows-set (k + 1) (size (take k path)) ws ws′ (same (size (take k path)) (pairs-fall path d k l inside mapped)));
+      ∙ ap (λ (n : ℕ). pairNumber n k (getD path k 0)) (openRows-set (k + 1) (size (take k path)) ws ws′ (same (size (take k path)) (pairs-fall path d k l inside mapped)));
 }
 
 -- A row that is left out is no pair.
@@ -105,7 +105,7 @@ trail-left-out {path} {trail} {ws} {row} out t = record {
 
 -- A row that took a value is one pair more.
 pub trail-taken : {path trail ws : List ℕ} {row pairs code : ℕ} → length path ≡ 64 → row < 64 → pairs ≡ size (take row path)
-    → getD path row 0 < 64 → code ≡ 4096 * openRows (row + 1) pairs ws + 64 * row + getD path row 0
+    → getD path row 0 < 64 → code ≡ pairNumber (openRows (row + 1) pairs ws) row (getD path row 0)
     → Trail path row trail ws → Trail path (row + 1) (set trail pairs code) ws
 trail-taken {path} {trail} {ws} {row} {pairs} {code} long inside count small own t = record {
   places = length-set trail pairs code ∙ t .places;
@@ -114,11 +114,11 @@ trail-taken {path} {trail} {ws} {row} {pairs} {code} long inside count small own
 }
   where
     last : (k : ℕ) → k ≡ row
-        → getD (set trail pairs code) (size (take k path)) 0 ≡ 4096 * openRows (k + 1) (size (take k path)) ws + 64 * k + getD path k 0
+        → getD (set trail pairs code) (size (take k path)) 0 ≡ pairNumber (openRows (k + 1) (size (take k path)) ws) k (getD path k 0)
     last k e =
         rw (e, ← count) (getD-set-same trail pairs code 0 (omega (arith, size-take-max path row, t .places)) ∙ own)
 
     earlier : (k : ℕ) → k < row → getD path k 0 ≢ unmapped
-        → getD (set trail pairs code) (size (take k path)) 0 ≡ 4096 * openRows (k + 1) (size (take k path)) ws + 64 * k + getD path k 0
+        → getD (set trail pairs code) (size (take k path)) 0 ≡ pairNumber (openRows (k + 1) (size (take k path)) ws) k (getD path k 0)
     earlier k b mapped =
         getD-set-other trail pairs (size (take k path)) code 0 (λ e. omega (arith, pairs-fall path row k b (omega arith) mapped)) ∙ t .pair k b mapped

@@ -95,13 +95,16 @@ pub record Numbers (numbers : List ℕ) : Type 0 where
   pub all : length numbers ≡ 64
   pub number : (i : ℕ) → i < 64 → getD numbers i 0 ≡ i + 1
 
--- The pairs of the path's first `depth` entries, each at the number of pairs before it: its row, its value, and how many later rows had a
--- candidate before it was met, in one number.
+-- a pair in one number: how many later rows had a candidate before it was met, its row, and its value
+abbrev pub pairNumber : ℕ → ℕ → ℕ → ℕ
+pairNumber later row value = 4096 * later + 64 * row + value
+
+-- the pairs of the path's first `depth` entries, each at the number of pairs before it
 pub record Trail (path : List ℕ) (depth : ℕ) (trail workspace : List ℕ) : Type 0 where
   pub places : length trail ≡ 64
   pub value : (k : ℕ) → k < depth → getD path k 0 ≢ unmapped → getD path k 0 < 64
   pub pair : (k : ℕ) → k < depth → getD path k 0 ≢ unmapped
-      → getD trail (size (take k path)) 0 ≡ 4096 * openRows (k + 1) (size (take k path)) workspace + 64 * k + getD path k 0
+      → getD trail (size (take k path)) 0 ≡ pairNumber (openRows (k + 1) (size (take k path)) workspace) k (getD path k 0)
 
 -- how many rows from `depth` on have a candidate before the last entry is met
 pub record OpenIs (depth pairs last later : ℕ) (workspace : List ℕ) : Type 0 where

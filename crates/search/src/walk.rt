@@ -100,12 +100,12 @@ pub fn row_numbers() -> [u8; MAX_ORDER]
     numbers
 }
 
-// The entry of the row of a number once the walk stands at `depth`.
-pub fn entry(number: u8, depth: u8, old: u8, last: u8) -> u8
-    ensures { λ r. ⌜ (number < depth → r ≡ old) × (number ≡ depth → r ≡ last) × (depth < number → r ≡ 0) ⌝ }
+// The entry of the row of a number once the walk stands at `depth`; `before` stood there till then.
+pub fn entry(number: u8, depth: u8, before: u8, last: u8) -> u8
+    ensures { λ r. ⌜ (number < depth → r ≡ before) × (number ≡ depth → r ≡ last) × (depth < number → r ≡ 0) ⌝ }
 {
     if number < depth {
-        return old;
+        return before;
     }
     if number == depth {
         return last;

@@ -3,11 +3,11 @@
 use borrow.Author.Needs.{needs}
 use mathlib.Core.Path.{ap}
 use mathlib.Core.Logic.{⊎-elim}
-use Prim.Native.Nat.{ℕ, _+_, _*_, _-_, _≤_, _<_}
+use Prim.Native.Nat.{ℕ, _+_, _-_, _≤_, _<_}
 use lib.ListN.{length, getD}
 use native.Mathlib.Omega.{arith}
 use Rattle.search.proofs.NodeWords.{openRows-max, size-take-max, size-mapped, entry-max}
-use Rattle.search.specs.Walking.{Trail}
+use Rattle.search.specs.Walking.{Trail, pairNumber}
 use Rattle.search.proofs.Trails.{trail-none, trail-shorter, trail-kept, trail-left-out, trail-taken}
 use Rattle.search.proofs.RebuildTurn.{RebuiltTo, rebuilt-none, rebuilt-left-out, rebuilt-taken, rebuilt-all}
 use Rattle.search.proofs.walk.rebuild.Statement.{statement}
@@ -137,7 +137,7 @@ loop-again c =
     rw (w .8, w .9, w .10) (
       rebuilt-taken (bounds .path-length) (bounds .depth-max) below (w .0 .taken) (w .5 .ensures .whole (omega arith) .1) (l .inv .0),
       trail-kept (omega (arith, bounds .path-length)) (λ p h. w .5 .ensures .kept .sets p (omega (arith, l .inv .0 .pairs-are)))
-          (trail-taken (bounds .path-length) inside (l .inv .0 .pairs-are) small (ap (λ (n : ℕ). 4096 * n + 64 * l .row + getD path (l .row) 0) (w .2 .ensures)) (l .inv .1)),
+          (trail-taken (bounds .path-length) inside (l .inv .0 .pairs-are) small (ap (λ (n : ℕ). pairNumber n (l .row) (getD path (l .row) 0)) (w .2 .ensures)) (l .inv .1)),
     ))
     (λ w. rw (w .1, w .2, w .3) (rebuilt-left-out below (w .0 .left) (l .inv .0), trail-left-out (w .0 .left) (l .inv .1)))
     (c .if1 .came)
