@@ -2,14 +2,15 @@
  *
  *     resume [--substitute LABEL:LABEL]... OLD NEW CHECKPOINT BUDGET [MINIMUM]
  *
- * OLD and NEW are graph files. Without a file CHECKPOINT the search starts, for mappings of at
- * least MINIMUM vertices (0 to 255; 0 if not given), else it goes on from there; either way for
- * BUDGET visits. The file is saved, and what the search says so far is printed. To build it:
+ * OLD and NEW are graph files of edition 2. Without a file CHECKPOINT the search starts, for
+ * mappings of at least MINIMUM vertices (0 to 255; 0 if not given), else it goes on from there;
+ * either way for BUDGET visits. The file is saved, and what the search says so far is printed. To
+ * build it:
  *
  *     cc -Iinclude examples/resume.c target/staticlib/libc_api.a -o resume
  *
  * `--substitute 7:9` lets old vertices of label 7 be mapped to new ones of label 9 too; labels are
- * 1 to 255, and at most 256 pairs may be given. Each run has to give the same ones, in the same
+ * 1 to 65535, and at most 256 pairs may be given. Each run has to give the same ones, in the same
  * order.
  *
  * BUDGET, MINIMUM and each LABEL are decimal numbers without sign or leading zero. A MINIMUM is
@@ -21,8 +22,12 @@
  * The file has four parts: the bytes of the old graph, of the new graph, of the substitutes and of
  * the checkpoint, each after its length, which takes two bytes, the lower first. The first three
  * stand there whole, so that nothing rests on a digest; they count as the same if their bytes are.
- * A file of three parts, from before there were substitutes, is read as one whose list is empty:
- * that is what it was saved for. examples/resume.rs reads and writes the same file.
+ * examples/resume.rs reads and writes the same file.
+ *
+ * A file from before edition 2 has graphs of edition 1 and substitutes of one byte a label. It is
+ * read as if it were saved for the moved graphs, and for the same labels in two bytes each: so it
+ * goes on with OLD and NEW as golfcedar_to_edition_2 gives them. One of three parts, from before
+ * there were substitutes, is read as one whose list is empty: that is what it was saved for.
  */
 #include <errno.h>
 #include <inttypes.h>
@@ -80,6 +85,12 @@ static uint64_t number_or_exit(const char *what, const char *word, uint64_t larg
     return number;
 }
 
+static void put_label(struct bytes *substitutes, uint64_t label)
+{
+    substitutes->at[substitutes->length++] = label % 256;
+    substitutes->at[substitutes->length++] = label / 256;
+}
+
 /* Two labels with a colon between, in the form in which they are printed. */
 static void add_substitute_or_exit(struct bytes *substitutes, const char *word)
 {
@@ -88,18 +99,19 @@ static void add_substitute_or_exit(struct bytes *substitutes, const char *word)
     uint64_t from = strtoull(word, &end, 10);
     uint64_t to = *end == ':' ? strtoull(end + 1, NULL, 10) : 0;
     snprintf(printed, sizeof printed, "%" PRIu64 ":%" PRIu64, from, to);
-    if (strcmp(printed, word) != 0 || from < 1 || from > UINT8_MAX || to < 1 || to > UINT8_MAX) {
-        fprintf(stderr, "substitute '%s': not two numbers from 1 to 255 in plain form, as in 7:9\n",
-                word);
+    if (strcmp(printed, word) != 0 || from < 1 || from > UINT16_MAX || to < 1 ||
+        to > UINT16_MAX) {
+        fprintf(stderr,
+                "substitute '%s': not two numbers from 1 to 65535 in plain form, as in 7:9\n", word);
         exit(EXIT_FAILURE);
     }
     if (substitutes->length == GOLFCEDAR_SUBSTITUTES_BYTES) {
         fprintf(stderr, "substitute '%s': at most %d may be given\n", word,
-                GOLFCEDAR_SUBSTITUTES_BYTES / 2);
+                GOLFCEDAR_SUBSTITUTES_BYTES / 4);
         exit(EXIT_FAILURE);
     }
-    substitutes->at[substitutes->length++] = from;
-    substitutes->at[substitutes->length++] = to;
+    put_label(substitutes, from);
+    put_label(substitutes, to);
 }
 
 /* Answers 0 if there is no such file. */
@@ -155,8 +167,36 @@ static int same(const struct bytes *one, const struct bytes *other)
     return one->length == other->length && memcmp(one->at, other->at, one->length) == 0;
 }
 
-/* Answers 0 if the parts are cut off, or more follows. No list ends as a checkpoint does, with a 0:
- * so one that is cut off after the list is not taken for a file of three parts. */
+/* Answers 0 if it is no graph of edition 1. */
+static int move_up(struct bytes *graph)
+{
+    static struct bytes moved;
+    uint64_t value;
+    uint32_t number = golfcedar_to_edition_2(graph->at, graph->length, moved.at, sizeof moved.at,
+                                             &value);
+    if (number != 0)
+        return 0;
+    moved.length = value;
+    *graph = moved;
+    return 1;
+}
+
+/* Answers 0 if there are too many. */
+static int widen(struct bytes *substitutes)
+{
+    static struct bytes narrow;
+    narrow = *substitutes;
+    if (narrow.length > GOLFCEDAR_SUBSTITUTES_BYTES / 2)
+        return 0;
+    substitutes->length = 0;
+    for (size_t label = 0; label < narrow.length; label++)
+        put_label(substitutes, narrow.at[label]);
+    return 1;
+}
+
+/* Answers 0 if the parts are cut off, if more follows, or if they are from before edition 2 and not
+ * sound. They are from then if the graphs are. No list of that time ends as a checkpoint does, with
+ * a 0: so a file that is cut off after the list is not taken for one of three parts. */
 static int take_parts(const struct bytes *saved, struct bytes *old, struct bytes *new,
                       struct bytes *substitutes, struct bytes *checkpoint)
 {
@@ -164,13 +204,17 @@ static int take_parts(const struct bytes *saved, struct bytes *old, struct bytes
     if (!take_part(saved, &place, old) || !take_part(saved, &place, new) ||
         !take_part(saved, &place, substitutes))
         return 0;
-    if (place == saved->length && substitutes->length > 0 &&
+    int earlier = old->length == 0 || old->at[0] != 4;
+    if (earlier && place == saved->length && substitutes->length > 0 &&
         substitutes->at[substitutes->length - 1] == 0) {
         *checkpoint = *substitutes;
         substitutes->length = 0;
-        return 1;
+    } else if (!take_part(saved, &place, checkpoint)) {
+        return 0;
     }
-    return take_part(saved, &place, checkpoint) && place == saved->length;
+    if (place != saved->length)
+        return 0;
+    return !earlier || (move_up(old) && move_up(new) && widen(substitutes));
 }
 
 /* Answers 0 if there is no such file. */

@@ -2,13 +2,13 @@
 //!
 //!     resume [--substitute LABEL:LABEL]... OLD NEW CHECKPOINT BUDGET [MINIMUM]
 //!
-//! OLD and NEW are graph files. Without a file CHECKPOINT the search starts, for mappings of at
-//! least MINIMUM vertices (0 to 255; 0 if not given), else it goes on from there; either way for
-//! BUDGET visits. The file is saved, and what the search says so far is printed. Build it in
-//! `harness/` with `cargo build --bin resume`.
+//! OLD and NEW are graph files of edition 2. Without a file CHECKPOINT the search starts, for
+//! mappings of at least MINIMUM vertices (0 to 255; 0 if not given), else it goes on from there;
+//! either way for BUDGET visits. The file is saved, and what the search says so far is printed.
+//! Build it in `harness/` with `cargo build --bin resume`.
 //!
 //! `--substitute 7:9` lets old vertices of label 7 be mapped to new ones of label 9 too; labels are
-//! 1 to 255, and at most 256 pairs may be given. Each run has to give the same ones, in the same
+//! 1 to 65535, and at most 256 pairs may be given. Each run has to give the same ones, in the same
 //! order.
 //!
 //! BUDGET, MINIMUM and each LABEL are decimal numbers without sign or leading zero. A MINIMUM is
@@ -20,8 +20,12 @@
 //! The file has four parts: the bytes of the old graph, of the new graph, of the substitutes and of
 //! the checkpoint, each after its length, which takes two bytes, the lower first. The first three
 //! stand there whole, so that nothing rests on a digest; they count as the same if their bytes are.
-//! A file of three parts, from before there were substitutes, is read as one whose list is empty:
-//! that is what it was saved for. examples/resume.c reads and writes the same file.
+//! examples/resume.c reads and writes the same file.
+//!
+//! A file from before edition 2 has graphs of edition 1 and substitutes of one byte a label. It is
+//! read as if it were saved for the moved graphs, and for the same labels in two bytes each: so it
+//! goes on with OLD and NEW as golfcedar_to_edition_2 gives them. One of three parts, from before
+//! there were substitutes, is read as one whose list is empty: that is what it was saved for.
 
 use std::env;
 use std::fmt::Display;
@@ -31,7 +35,7 @@ use std::process::ExitCode;
 use std::str::FromStr;
 
 use harness::answer::Answer;
-use harness::library::{self, CHECKPOINT_BYTES, MAX_VERTICES, NO_SUBSTITUTES};
+use harness::library::{self, CHECKPOINT_BYTES, GRAPH_BYTES, MAX_VERTICES, NO_SUBSTITUTES};
 use harness::library::{SUBSTITUTES_BYTES, UNMAPPED, WORKSPACE_WORDS};
 
 const USAGE: &str =
@@ -100,23 +104,23 @@ fn number<N: FromStr + Display>(what: &str, word: &str, largest: N) -> Result<N,
 /// Two labels with a colon between, in the form in which they are printed.
 fn add_substitute(substitutes: &mut Vec<u8>, word: &str) -> Result<(), String> {
     let label = |word: &str| {
-        number("label", word, u8::MAX)
+        number("label", word, u16::MAX)
             .ok()
             .filter(|&label| label > 0)
     };
     let pair = word.split_once(':');
     let Some((from, to)) = pair.and_then(|(from, to)| label(from).zip(label(to))) else {
         return Err(format!(
-            "substitute '{word}': not two numbers from 1 to 255 in plain form, as in 7:9"
+            "substitute '{word}': not two numbers from 1 to 65535 in plain form, as in 7:9"
         ));
     };
     if substitutes.len() == SUBSTITUTES_BYTES {
         return Err(format!(
             "substitute '{word}': at most {} may be given",
-            SUBSTITUTES_BYTES / 2
+            SUBSTITUTES_BYTES / 4
         ));
     }
-    substitutes.extend([from, to]);
+    substitutes.extend([from, to].map(u16::to_le_bytes).as_flattened());
     Ok(())
 }
 
@@ -137,16 +141,46 @@ fn accepted(what: &str, name: &str, answer: Answer) -> Result<Answer, String> {
     }
 }
 
-/// The four parts of a saved file, if it is in the form. No list ends as a checkpoint does, with a
-/// 0: so one that is cut off after the list is not taken for a file of three parts.
-fn parts(mut saved: &[u8]) -> Option<[&[u8]; 4]> {
+/// The four parts of a saved file, if it is in the form. They are from before edition 2 if the graphs
+/// are. No list of that time ends as a checkpoint does, with a 0: so a file that is cut off after the
+/// list is not taken for one of three parts.
+fn parts(mut saved: &[u8]) -> Option<[Vec<u8>; 4]> {
     let [old, new] = [take_part(&mut saved)?, take_part(&mut saved)?];
     let third = take_part(&mut saved)?;
-    if saved.is_empty() && third.ends_with(&[0]) {
-        return Some([old, new, NO_SUBSTITUTES, third]);
+    let earlier = !old.starts_with(&[4]);
+    let (substitutes, checkpoint) = if earlier && saved.is_empty() && third.ends_with(&[0]) {
+        (NO_SUBSTITUTES, third)
+    } else {
+        (third, take_part(&mut saved)?)
+    };
+    if !saved.is_empty() {
+        return None;
     }
-    let checkpoint = take_part(&mut saved)?;
-    saved.is_empty().then_some([old, new, third, checkpoint])
+    let checkpoint = checkpoint.to_vec();
+    Some(if earlier {
+        [
+            moved_up(old)?,
+            moved_up(new)?,
+            widened(substitutes)?,
+            checkpoint,
+        ]
+    } else {
+        [old.to_vec(), new.to_vec(), substitutes.to_vec(), checkpoint]
+    })
+}
+
+/// None if it is no graph of edition 1.
+fn moved_up(graph: &[u8]) -> Option<Vec<u8>> {
+    let mut moved = vec![0; GRAPH_BYTES];
+    let answer = library::to_edition_2(graph, &mut moved);
+    moved.truncate(answer.value as usize);
+    answer.is_accepted().then_some(moved)
+}
+
+/// None if there are too many.
+fn widened(substitutes: &[u8]) -> Option<Vec<u8>> {
+    let labels = substitutes.iter().flat_map(|&label| [label, 0]);
+    (substitutes.len() <= SUBSTITUTES_BYTES / 2).then(|| labels.collect())
 }
 
 fn take_part<'a>(saved: &mut &'a [u8]) -> Option<&'a [u8]> {
@@ -198,7 +232,7 @@ impl Search<'_> {
         if substitutes != self.substitutes {
             return Err(self.failure("saved for other substitutes: name another file"));
         }
-        self.checkpoint = checkpoint.to_vec();
+        self.checkpoint = checkpoint;
         Ok(true)
     }
 

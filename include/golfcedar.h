@@ -8,15 +8,22 @@
  * results alike, must not overlap anything else that is lent to the same call. A call uses at most 320 kibibytes of stack (tested, not proved).
  * Several threads may call at the same time, if what one call writes is lent to no other call meanwhile; what calls only read may be shared.
  *
+ * A graph's bytes are of edition 2. They begin with 4 2, and then have commands: `3 low high` is the next vertex, with a label from 1 to 65,535, the lower byte
+ * first; `2 a b label` an edge of two vertices already given, or of one with itself, with a label from 1 to 255; `0` the end. Edition 1 is the earlier form: it
+ * has no beginning of its own, and a vertex is `1 label`, with a label from 1 to 255. Only `golfcedar_to_edition_2` reads it, and only `golfcedar_to_edition_1`
+ * writes it.
+ *
  * Every function returns 0 where it accepts, else a refusal's number. They are tested in the order in which the function names them, graph bytes command by
  * command and a mapping row by row, and the first condition met gives the number. The number results (`value`, `earlier`, `steps`, `size`, `ceiling`) are the
  * rest of the answer, and every call writes all of them: accepted, what the function says; refused, `value` as below, and `earlier` with 20 and 22; and 0 where
- * the answer says nothing. A refusal changes none of the buffers that were lent (`checkpoint`, `workspace`, `next`, `mapping`).
+ * the answer says nothing. A refusal changes none of the buffers that were lent (`checkpoint`, `workspace`, `next`, `mapping`, `out`).
  *
  *    number  refused because                                                             value
- *    1       of a graph's bytes: operands are cut off, or the end is missing             place
- *    2       unknown command                                                             place
+ *    27      a graph's bytes begin with anything but 4 2; empty, or 4 alone, is 1        place, always 0
+ *    1       of a graph's bytes: 4 2 or operands are cut off, or the end is missing      place
+ *    2       unknown command: in edition 2 also 1, a later 4; in edition 1 also 3, 4     place
  *    3, 4    a vertex with label 0; a 65th vertex                                        place
+ *    28      a vertex with a label above 255, for `golfcedar_to_edition_1`               place
  *    5, 7, 8 an edge of a vertex not yet given; with label 0; given already              place
  *    9       bytes after the end                                                         place
  *    13      what is to be written does not fit into its buffer                          0
@@ -28,19 +35,19 @@
  *    19, 21  of a mapping's row: no new vertex; labels do not agree                      row
  *    22      of the row with itself: edges differ                                        row (`earlier` has the same row)
  *    20, 22  against an earlier row: the same new vertex; edges differ                   row (`earlier` has the earlier one)
- *    23      substitutes of odd length, or of more than 512 bytes                        0
- *    24      a label 0 among the substitutes                                             0
+ *    23      substitutes whose length four does not divide, or above 1,024 bytes         0
+ *    24      a label 0 among the substitutes: both bytes are 0                           0
  *    25      more than eight old vertices, for `golfcedar_clique`                        0
  *    26      a number of vertices above 64, for `golfcedar_step_limit`                   0
  *
  * A place is an offset: that of the command at fault, of the first byte that cannot stand there, or the length where the end is missing.
  * 6 is no refusal's number, and 10, 11 and 12, of lent tables, are never given. Where two graphs are given, the old one is read first; if
- * `golfcedar_check_graph` accepts the old one, a number from 1 to 9 is about the new one.
+ * `golfcedar_check_graph` accepts the old one, 27 or a number from 1 to 9 is about the new one.
  *
- * `substitutes` says which vertex labels agree beside equal ones, which always do: pairs of bytes, the label of an old vertex, then the label of a new vertex
- * that may stand in for it; at most 256 pairs. A pair holds one way only, and pairs do not chain: by 7 8 8 9 an old 7 does not agree with a new 9. A list of
- * length 0 says that only equal labels agree. Edges never read it: their labels must be equal. Calls that resume one another take the same bytes: a checkpoint
- * made under another list may be refused with 14, or be accepted, and then the ceiling is not promised.
+ * `substitutes` says which vertex labels agree beside equal ones, which always do: pairs of labels of two bytes each, the lower first: the label of an old
+ * vertex, then the label of a new vertex that may stand in for it; at most 256 pairs. A pair holds one way only, and pairs do not chain: by 7 0 8 0 8 0 9 0 an
+ * old 7 does not agree with a new 9. A list of length 0 says that only equal labels agree. Edges never read it: their labels must be equal. Calls that resume
+ * one another take the same bytes: a checkpoint made under another list may be refused with 14, or be accepted, and then the ceiling is not promised.
  */
 #ifndef GOLFCEDAR_H
 #define GOLFCEDAR_H
@@ -53,13 +60,15 @@ extern "C" {
 #endif
 
 /* No graph has more bytes than this. */
-#define GOLFCEDAR_GRAPH_BYTES 8449
+#define GOLFCEDAR_GRAPH_BYTES 8515
+/* No graph of edition 1 has more bytes than this. */
+#define GOLFCEDAR_EDITION_1_BYTES 8449
 /* No checkpoint has more bytes than this. */
 #define GOLFCEDAR_CHECKPOINT_BYTES 270
 /* A search call needs this many words of 64 bits. */
 #define GOLFCEDAR_WORKSPACE_WORDS 4160
-/* Substitutes have at most this many bytes, two for each pair. */
-#define GOLFCEDAR_SUBSTITUTES_BYTES 512
+/* Substitutes have at most this many bytes, four for each pair. */
+#define GOLFCEDAR_SUBSTITUTES_BYTES 1024
 /* `golfcedar_clique` takes at most this many old vertices. */
 #define GOLFCEDAR_CLIQUE_VERTICES 8
 /* In a mapping: an old vertex that is left out. */
@@ -67,19 +76,19 @@ extern "C" {
 /* From `golfcedar_step_limit`: so many steps or more. */
 #define GOLFCEDAR_STEP_LIMIT_CAP UINT64_MAX
 
-/* Is this a graph? Accepted: *value is its number of vertices. Refused: 1 to 9. */
+/* Is this a graph? Accepted: *value is its number of vertices. Refused: 27; 1 to 9. */
 uint32_t golfcedar_check_graph(const uint8_t *graph, size_t graph_len, uint64_t *value);
 
 /* Is this mapping, one byte for each old vertex, a common subgraph? Accepted: *value is its size, *earlier is 0.
- * Refused: 1 to 9; 23; 24; 18; then row by row 19, 21, 22 of the row with itself (both vertices need the same edge with themselves, or none), and against each
- * earlier row, rising, 20, 22. So it also tells why a vertex cannot stay: map it to the new vertex in question, and the number and the rows say what is
+ * Refused: 27; 1 to 9; 23; 24; 18; then row by row 19, 21, 22 of the row with itself (both vertices need the same edge with themselves, or none), and against
+ * each earlier row, rising, 20, 22. So it also tells why a vertex cannot stay: map it to the new vertex in question, and the number and the rows say what is
  * against it. */
 uint32_t golfcedar_check_mapping(const uint8_t *old_graph, size_t old_len, const uint8_t *new_graph, size_t new_len,
                                  const uint8_t *substitutes, size_t substitutes_len, const uint8_t *mapping, size_t mapping_len,
                                  uint64_t *value, uint64_t *earlier);
 
 /* A search that has not begun: only mappings of at least `minimum` vertices will be found. Accepted: its checkpoint stands in the first
- * *value bytes of `checkpoint`, and later bytes are untouched. Refused: 1 to 9; 23; 24; 13 if it does not fit, never with 270 bytes. */
+ * *value bytes of `checkpoint`, and later bytes are untouched. Refused: 27; 1 to 9; 23; 24; 13 if it does not fit, never with 270 bytes. */
 uint32_t golfcedar_start(const uint8_t *old_graph, size_t old_len, const uint8_t *new_graph, size_t new_len,
                          const uint8_t *substitutes, size_t substitutes_len, uint8_t minimum, uint8_t *checkpoint, size_t checkpoint_len,
                          uint64_t *value);
@@ -87,8 +96,8 @@ uint32_t golfcedar_start(const uint8_t *old_graph, size_t old_len, const uint8_t
 /* Goes on with a search for `budget` visits, fewer only if it finishes. `checkpoint` has exactly the bytes that an earlier call wrote.
  * Accepted: the next checkpoint stands in the first *value bytes of `next`, later bytes are untouched; every common subgraph has fewer than
  * *ceiling vertices (if the search began with `golfcedar_start`, and all its calls took the same two graphs and substitutes); the first 4,160 words of
- * `workspace` are 0, later words are untouched. Refused: 1 to 9; 23; 24; 17; 14; 15; 16; 13 if the next checkpoint does not fit, never with 270 bytes. How long
- * it is shows only when the visits are made, so lend 270: after 13 the search stands where it stood, and the visits have to be made again. */
+ * `workspace` are 0, later words are untouched. Refused: 27; 1 to 9; 23; 24; 17; 14; 15; 16; 13 if the next checkpoint does not fit, never with 270 bytes. How
+ * long it is shows only when the visits are made, so lend 270: after 13 the search stands where it stood, and the visits have to be made again. */
 uint32_t golfcedar_resume(const uint8_t *old_graph, size_t old_len, const uint8_t *new_graph, size_t new_len,
                           const uint8_t *substitutes, size_t substitutes_len, const uint8_t *checkpoint, size_t checkpoint_len,
                           uint64_t budget, uint64_t *workspace, size_t workspace_words, uint8_t *next, size_t next_len, uint64_t *value,
@@ -96,14 +105,15 @@ uint32_t golfcedar_resume(const uint8_t *old_graph, size_t old_len, const uint8_
 
 /* What a checkpoint says. Accepted: *value is its state (0 unfinished, 1 unfinished with a mapping held, 2 finished, 3 finished with one), *steps the
  * visits made, *ceiling as `golfcedar_resume` gives it. If a mapping is held, *size is its size, and one byte for each old vertex is stored to `mapping`;
- * else *size is 0 and `mapping` is untouched. Refused: 1 to 9; 23; 24; 17; 14; 13 if a mapping is held and has more bytes than `mapping`, never with 64 bytes. */
+ * else *size is 0 and `mapping` is untouched. Refused: 27; 1 to 9; 23; 24; 17; 14; 13 if a mapping is held and has more bytes than `mapping`, never with 64
+ * bytes. */
 uint32_t golfcedar_read_out(const uint8_t *old_graph, size_t old_len, const uint8_t *new_graph, size_t new_len,
                             const uint8_t *substitutes, size_t substitutes_len, const uint8_t *checkpoint, size_t checkpoint_len,
                             uint8_t *mapping, size_t mapping_len, uint64_t *value, uint64_t *steps, uint64_t *size, uint64_t *ceiling);
 
 /* The whole search in one call, for an old graph of at most eight vertices: by clique branching, which holds the mapping that a finished search with this
  * `minimum` holds. Accepted: *value is 1 if a mapping is held; then *size is its size, one byte for each old vertex is stored to `mapping`, and later bytes are
- * untouched. Else *value and *size are 0, `mapping` is untouched, and no common subgraph has `minimum` vertices. Refused: 1 to 9; 23; 24; 25; 13 if a mapping
+ * untouched. Else *value and *size are 0, `mapping` is untouched, and no common subgraph has `minimum` vertices. Refused: 27; 1 to 9; 23; 24; 25; 13 if a mapping
  * is held and has more bytes than `mapping`, never with 8 bytes.
  * It has no bound and no budget: it goes through every common subgraph, and returns when it is through. That takes moments where few new vertices agree with
  * each old one, and does not end in practice where 64 do (README.md has figures): `golfcedar_resume` can be stopped. */
@@ -118,6 +128,17 @@ uint32_t golfcedar_clique(const uint8_t *old_graph, size_t old_len, const uint8_
  * Below the cap, a search that began with `golfcedar_start` is finished once the budgets of its accepted `golfcedar_resume` calls add up to *value. It is a
  * limit, and mostly far above the steps that a search takes (README.md has figures). */
 uint32_t golfcedar_step_limit(uint64_t new_order, uint64_t old_order, uint64_t *value);
+
+/* Moves a graph from edition 1 to edition 2: reads `graph`, bytes of edition 1, and writes the same graph in edition 2, all its vertices, then its edges with
+ * a <= b by rising a, then rising b, then the end. Accepted: it stands in the first *value bytes of `out`, and later bytes are untouched. Refused: 1 to 9;
+ * 13 if it does not fit, never with GOLFCEDAR_GRAPH_BYTES. Bytes of edition 2 are refused with 2, place 0. */
+uint32_t golfcedar_to_edition_2(const uint8_t *graph, size_t graph_len, uint8_t *out, size_t out_len, uint64_t *value);
+
+/* Moves a graph back from edition 2 to edition 1, if each label fits a byte, and writes it in the same order. Accepted: it stands in the first *value bytes of
+ * `out`, and later bytes are untouched. Refused: 27; 1 to 9 and 28, which is tested of a vertex after 3 and 4, and so before any later command; 13 if it does
+ * not fit, never with GOLFCEDAR_EDITION_1_BYTES.
+ * Moved there and back, a graph is the same; its bytes are the same if they were in the order that is written here. */
+uint32_t golfcedar_to_edition_1(const uint8_t *graph, size_t graph_len, uint8_t *out, size_t out_len, uint64_t *value);
 
 #ifdef __cplusplus
 }

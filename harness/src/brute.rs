@@ -28,7 +28,7 @@ fn is_common(problem: &Problem, list: &[u8]) -> bool {
         .collect();
     let Problem { old, new, .. } = problem;
     // read here again, and not by the reference: an old label, and those that it agrees with
-    let agreeing = |label: u8| {
+    let agreeing = |label: u16| {
         let listed = problem.substitutes.pairs.iter();
         let listed = listed.filter(move |[from, _]| *from == label);
         [label].into_iter().chain(listed.map(|&[_, to]| to))

@@ -4,10 +4,10 @@ use std::fmt::{self, Display};
 use std::ops::Range;
 
 use crate::answer::Answer;
-use crate::reference::{Graph, UNMAPPED, WORKSPACE_WORDS};
+use crate::reference::{Edition, Graph, Reason, Refusal, UNMAPPED, WORKSPACE_WORDS};
 use crate::{library, reference};
 
-/// The seven functions of include/golfcedar.h.
+/// The nine functions of include/golfcedar.h.
 #[allow(clippy::type_complexity)]
 pub struct Implementation {
     pub name: &'static str,
@@ -18,6 +18,8 @@ pub struct Implementation {
     pub read_out: fn(&[u8], &[u8], &[u8], &[u8], &mut [u8]) -> Answer,
     pub clique: fn(&[u8], &[u8], &[u8], u8, &mut [u8]) -> Answer,
     pub step_limit: fn(u64, u64) -> Answer,
+    pub to_edition_2: fn(&[u8], &mut [u8]) -> Answer,
+    pub to_edition_1: fn(&[u8], &mut [u8]) -> Answer,
 }
 
 pub const LIBRARY: Implementation = Implementation {
@@ -29,6 +31,8 @@ pub const LIBRARY: Implementation = Implementation {
     read_out: library::read_out,
     clique: library::clique,
     step_limit: library::step_limit,
+    to_edition_2: library::to_edition_2,
+    to_edition_1: library::to_edition_1,
 };
 
 pub const REFERENCE: Implementation = Implementation {
@@ -40,6 +44,8 @@ pub const REFERENCE: Implementation = Implementation {
     read_out: reference::read_out,
     clique: reference::clique,
     step_limit: reference::step_limit,
+    to_edition_2: reference::to_edition_2,
+    to_edition_1: reference::to_edition_1,
 };
 
 /// Memory lent for output, with a margin on both sides that shows a write out of bounds.
@@ -134,6 +140,7 @@ pub enum Call {
         new_order: u64,
         old_order: u64,
     },
+    Move(Move),
 }
 
 #[derive(Clone, Debug, PartialEq, Eq)]
@@ -190,6 +197,49 @@ impl Clique {
             answer,
             memory: Call::Clique(memory),
         }
+    }
+}
+
+/// A file to be moved to an edition from the other one.
+#[derive(Clone, Debug, PartialEq, Eq)]
+pub struct Move {
+    pub to: Edition,
+    pub graph: Vec<u8>,
+    pub out: Buffer<u8>,
+}
+
+impl Move {
+    /// The outcome of this call if such bytes are to be written; 13 if they do not fit.
+    pub fn writing(&self, bytes: &[u8]) -> Outcome {
+        let mut memory = self.clone();
+        let answer = if bytes.len() > self.out.lent().len() {
+            Answer {
+                number: 13,
+                ..Answer::default()
+            }
+        } else {
+            memory.out.lend()[..bytes.len()].copy_from_slice(bytes);
+            Answer::accepted(bytes.len() as u64)
+        };
+        Outcome {
+            answer,
+            memory: Call::Move(memory),
+        }
+    }
+
+    /// The same call with small labels in the place of those that do not fit edition 1. None where
+    /// the reading comes to no such label.
+    pub fn with_narrow_labels(&self) -> Option<Move> {
+        let mut narrow = self.clone();
+        while let Err(Refusal {
+            reason: Reason::LabelAboveByte,
+            value,
+            ..
+        }) = self.to.moved_here(&narrow.graph)
+        {
+            narrow.graph[value + 1..value + 3].copy_from_slice(&[1, 0]);
+        }
+        (narrow != *self).then_some(narrow)
     }
 }
 
@@ -250,6 +300,10 @@ impl Call {
                 new_order,
                 old_order,
             } => (by.step_limit)(*new_order, *old_order),
+            Call::Move(call) => match call.to {
+                Edition::One => (by.to_edition_1)(&call.graph, call.out.lend()),
+                Edition::Two => (by.to_edition_2)(&call.graph, call.out.lend()),
+            },
         };
         Outcome { answer, memory }
     }
@@ -257,7 +311,7 @@ impl Call {
     /// None where the call is on a single graph, or on none.
     pub fn given(&self) -> Option<&Given> {
         match self {
-            Call::CheckGraph { .. } | Call::StepLimit { .. } => None,
+            Call::CheckGraph { .. } | Call::StepLimit { .. } | Call::Move(_) => None,
             Call::CheckMapping { given, .. }
             | Call::Start { given, .. }
             | Call::Resume(Resume { given, .. })
@@ -268,7 +322,7 @@ impl Call {
 
     fn given_mut(&mut self) -> Option<&mut Given> {
         match self {
-            Call::CheckGraph { .. } | Call::StepLimit { .. } => None,
+            Call::CheckGraph { .. } | Call::StepLimit { .. } | Call::Move(_) => None,
             Call::CheckMapping { given, .. }
             | Call::Start { given, .. }
             | Call::Resume(Resume { given, .. })
@@ -305,6 +359,10 @@ impl Call {
             Call::ReadOut { .. } => "golfcedar_read_out",
             Call::Clique(_) => "golfcedar_clique",
             Call::StepLimit { .. } => "golfcedar_step_limit",
+            Call::Move(Move { to, .. }) => match to {
+                Edition::One => "golfcedar_to_edition_1",
+                Edition::Two => "golfcedar_to_edition_2",
+            },
         }
     }
 
@@ -357,6 +415,10 @@ impl Call {
             } => arguments.extend([
                 ("new_order", new_order.to_string()),
                 ("old_order", old_order.to_string()),
+            ]),
+            Call::Move(call) => arguments.extend([
+                ("graph", Listed(&call.graph).to_string()),
+                ("out", call.out.to_string()),
             ]),
         }
         arguments

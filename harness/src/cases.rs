@@ -6,22 +6,28 @@ use std::ops::Range;
 use crate::library::CLIQUE_VERTICES;
 use crate::random::Random;
 use crate::reference::{entries_from_bytes, entries_to_bytes, size, Checkpoint, Entry};
-use crate::reference::{Graph, Node, Problem, Substitutes, MAX_VERTICES, UNMAPPED};
+use crate::reference::{Edition, Graph, Node, Problem, Substitutes, MAX_VERTICES, UNMAPPED};
 
 /// The end of a range that has every number of vertices in it.
 pub const ANY_ORDER: usize = MAX_VERTICES + 1;
 
-/// The labels of random graphs.
-const ALPHABET: [u8; 7] = [1, 2, 7, 9, 64, 200, 255];
+/// The vertex labels of random graphs. Each has the lower byte or the higher one in common with
+/// another, and some are others with their bytes turned.
+const LABELS: [u16; 10] = [1, 2, 7, 9, 255, 256, 263, 1_792, 65_280, 65_535];
+/// Those of graphs that fit edition 1, and of some that do not.
+const NARROW_LABELS: [u16; 7] = [1, 2, 7, 9, 64, 200, 255];
+const MIXED_LABELS: [u16; 5] = [1, 7, 255, 256, 65_535];
 /// Labels that none of their vertices has.
-const UNUSED: [u8; 3] = [3, 8, 254];
+const UNUSED: [u16; 4] = [3, 8, 264, 65_534];
+const EDGE_LABELS: [u8; 7] = [1, 2, 7, 9, 64, 200, 255];
 const MAX_PAIRS: usize = 256;
+const PAIR_BYTES: usize = 4;
 /// A tree of so many nodes is walked whole in a moment.
 const FEW_NODES: usize = 20_000;
 
 /// What the graphs of one problem have in common.
 pub struct Style {
-    pub vertex_labels: Vec<u8>,
+    pub vertex_labels: Vec<u16>,
     pub edge_labels: Vec<u8>,
     /// Chance of an edge of two vertices, in percent.
     pub density: usize,
@@ -32,15 +38,21 @@ pub struct Style {
 
 impl Style {
     pub fn random(random: &mut Random) -> Style {
-        let mut alphabet = ALPHABET;
-        random.shuffle(&mut alphabet);
-        let vertex_labels = alphabet[..random.pick(&[1, 1, 2, 2, 3])].to_vec();
-        random.shuffle(&mut alphabet);
-        let edge_labels = if random.percent(5) {
-            (1..=255).collect()
+        Style::with_labels(random, &LABELS)
+    }
+
+    /// One to three of these.
+    fn with_labels(random: &mut Random, labels: &[u16]) -> Style {
+        let mut vertex_labels = labels.to_vec();
+        random.shuffle(&mut vertex_labels);
+        vertex_labels.truncate(random.pick(&[1, 1, 2, 2, 3]));
+        let mut edge_labels = EDGE_LABELS.to_vec();
+        random.shuffle(&mut edge_labels);
+        if random.percent(5) {
+            edge_labels = (1..=255).collect();
         } else {
-            alphabet[..random.pick(&[1, 1, 2, 3])].to_vec()
-        };
+            edge_labels.truncate(random.pick(&[1, 1, 2, 3]));
+        }
         Style {
             vertex_labels,
             edge_labels,
@@ -143,7 +155,7 @@ pub fn other_own_edges(random: &mut Random, problem: &Problem) -> Problem {
     } = problem.clone();
     let which = random.within(0..3);
     let chance = random.pick(&[10, 30, 100]);
-    let label = random.pick(&[0, 0, ALPHABET[0], ALPHABET[1]]);
+    let label = random.pick(&[0, 0, EDGE_LABELS[0], EDGE_LABELS[1]]);
     let mut other = |_, before| match random.percent(chance) {
         true => label,
         false => before,
@@ -190,7 +202,7 @@ pub fn crowded_problem(random: &mut Random) -> Problem {
         problem.old.add_vertex(label).unwrap();
         if random.percent(50) {
             let end = random.within(0..vertex + 1);
-            let label = random.pick(&ALPHABET);
+            let label = random.pick(&EDGE_LABELS);
             problem.old.add_edge(end, vertex, label).unwrap();
         }
     }
@@ -199,8 +211,15 @@ pub fn crowded_problem(random: &mut Random) -> Problem {
 
 /// Many new vertices, of so many labels that few of them agree with an old one.
 fn wide_problem(random: &mut Random) -> Problem {
+    let vertex_labels = match random.within(0..4) {
+        0 => (1..100).collect(),
+        1 => (200..300).collect(),
+        2 => (65_436..=65_535).collect(),
+        // all with the same lower byte
+        _ => (0..100).map(|high| 256 * high + 7).collect(),
+    };
     let style = Style {
-        vertex_labels: (1..100).collect(),
+        vertex_labels,
         ..Style::random(random)
     };
     let order = random.within(11..ANY_ORDER);
@@ -232,12 +251,12 @@ fn count_down(node: &Node, left: &mut usize) -> bool {
 
 /// Every label in the place of another one, or of itself.
 fn relabelled(random: &mut Random, graph: &Graph) -> Graph {
-    let mut newer = ALPHABET;
+    let mut newer = LABELS;
     random.shuffle(&mut newer);
     let mut relabelled = Graph::default();
     for vertex in 0..graph.order() {
-        let number = ALPHABET.iter().position(|&l| l == graph.label(vertex));
-        let label = newer[number.expect("a label of the alphabet")];
+        let number = LABELS.iter().position(|&l| l == graph.label(vertex));
+        let label = newer[number.expect("one of the labels")];
         relabelled.add_vertex(label).unwrap();
     }
     for (a, b, label) in graph.edges() {
@@ -262,7 +281,7 @@ fn substitutes(random: &mut Random, old: &Graph, new: &Graph, empty: usize) -> S
         let length = random.pick(&[any_length, MAX_PAIRS - 1, MAX_PAIRS, MAX_PAIRS]);
         let place = random.within(0..pairs.len() + 1);
         let place = random.pick(&[0, 0, place, pairs.len()]);
-        let other = [random.pick(&UNUSED), random.pick(&ALPHABET)];
+        let other = [random.pick(&UNUSED), random.pick(&LABELS)];
         let others = vec![other; length - pairs.len()];
         pairs.splice(place..place, others);
     }
@@ -270,11 +289,12 @@ fn substitutes(random: &mut Random, old: &Graph, new: &Graph, empty: usize) -> S
 }
 
 /// A pair of labels that occur, turned or not; or two that would have to be chained; or one of
-/// equal labels, or with a label that does not occur; or one that is there already.
-fn some_pairs(random: &mut Random, old: &Graph, new: &Graph, before: &[[u8; 2]]) -> Vec<[u8; 2]> {
+/// equal labels, or with a label that does not occur, or with one that has a byte in common with the
+/// one that does; or one that is there already.
+fn some_pairs(random: &mut Random, old: &Graph, new: &Graph, before: &[[u16; 2]]) -> Vec<[u16; 2]> {
     let (from, to) = (label_of(random, old), label_of(random, new));
     let unused = random.pick(&UNUSED);
-    match random.within(0..12) {
+    match random.within(0..15) {
         0 => vec![[to, from]],
         1 => vec![[from, unused], [unused, to]],
         2 => vec![[unused, to], [from, unused]],
@@ -283,14 +303,28 @@ fn some_pairs(random: &mut Random, old: &Graph, new: &Graph, before: &[[u8; 2]])
         5 => vec![[from, unused]],
         6 => vec![[unused, to]],
         7 if !before.is_empty() => vec![random.pick(before)],
+        8 => vec![[akin(random, from), to]],
+        9 => vec![[from, akin(random, to)]],
+        10 => vec![[from.swap_bytes(), to.swap_bytes()]],
         _ => vec![[from, to]],
     }
 }
 
+/// Mostly another label, with a byte in common.
+fn akin(random: &mut Random, label: u16) -> u16 {
+    let others = [
+        label ^ 0x0100,
+        label ^ 0x0001,
+        label & 0x00FF,
+        label & 0xFF00,
+    ];
+    random.pick(&others).max(1)
+}
+
 /// Of any vertex.
-fn label_of(random: &mut Random, graph: &Graph) -> u8 {
+fn label_of(random: &mut Random, graph: &Graph) -> u16 {
     match graph.order() {
-        0 => random.pick(&ALPHABET),
+        0 => random.pick(&LABELS),
         order => graph.label(random.within(0..order)),
     }
 }
@@ -330,28 +364,31 @@ pub fn spoil_substitutes(random: &mut Random, bytes: &mut Vec<u8>) {
 }
 
 fn spoil_length(random: &mut Random, bytes: &mut Vec<u8>) {
-    let label = random.pick(&ALPHABET);
+    let byte = random.pick(&[0, 1, 7, 255]);
+    let most = PAIR_BYTES * MAX_PAIRS;
+    // part of a pair, whole labels too
+    let part = random.within(1..PAIR_BYTES);
     match random.within(0..5) {
-        0 => bytes.resize(2 * MAX_PAIRS + 1, label),
-        1 => bytes.resize(2 * MAX_PAIRS + 2, label),
+        0 => bytes.resize(most + part, byte),
+        1 => bytes.resize(most + PAIR_BYTES, byte),
         2 => bytes.resize(
-            2 * MAX_PAIRS + random.pick(&[3, 4, 88, 512, 513, 8000, 65_024]),
-            label,
+            most + random.pick(&[5, 8, 88, 1024, 1025, 8000, 64_512]),
+            byte,
         ),
-        3 if !bytes.is_empty() => drop(bytes.pop()),
-        _ => bytes.push(label),
+        3 if bytes.len() >= part => bytes.truncate(bytes.len() - part),
+        _ => bytes.resize(bytes.len() + part, byte),
     }
 }
 
 /// In an old label's place or in a new one's, at either end or anywhere.
 fn put_zero(random: &mut Random, bytes: &mut Vec<u8>) {
-    if bytes.is_empty() {
-        bytes.extend([random.pick(&ALPHABET); 2]);
+    if bytes.len() < PAIR_BYTES {
+        bytes.extend([random.pick(&[1, 7, 255]); PAIR_BYTES]);
     }
-    let last = bytes.len() - 1;
-    let anywhere = random.within(0..bytes.len());
-    let place = random.pick(&[0, 1.min(last), last.saturating_sub(1), last, anywhere]);
-    bytes[place] = 0;
+    let labels = bytes.len() / 2;
+    let anywhere = random.within(0..labels);
+    let label = random.pick(&[0, 1, labels - 2, labels - 1, anywhere]);
+    bytes[2 * label..2 * label + 2].fill(0);
 }
 
 fn shuffled_part(random: &mut Random, whole: &Graph) -> Graph {
@@ -371,17 +408,21 @@ fn shuffled_part(random: &mut Random, whole: &Graph) -> Graph {
     part
 }
 
-/// Bytes of a graph as any writer may give them: edges anywhere after their vertices, either
-/// number first.
+/// Bytes of a graph as any writer of edition 2 may give them.
 pub fn graph_bytes(random: &mut Random, graph: &Graph) -> Vec<u8> {
+    bytes_in(random, Edition::Two, graph)
+}
+
+/// Edges anywhere after their vertices, either number first; or as the edition's writer does.
+pub fn bytes_in(random: &mut Random, edition: Edition, graph: &Graph) -> Vec<u8> {
     if random.percent(30) {
-        return graph.save();
+        return edition.save(graph);
     }
     let mut edges: Vec<_> = graph.edges().collect();
     random.shuffle(&mut edges);
-    let mut bytes = Vec::new();
+    let mut bytes = edition.head().to_vec();
     for vertex in 0..graph.order() {
-        bytes.extend([1, graph.label(vertex)]);
+        bytes.extend(edition.vertex(graph.label(vertex)));
         let (now, later): (Vec<_>, Vec<_>) = edges
             .into_iter()
             .partition(|&(_, b, _)| b <= vertex && random.percent(60));
@@ -401,38 +442,79 @@ fn edge_command(random: &mut Random, (a, b, label): (usize, usize, u8)) -> [u8; 
     }
 }
 
-/// Bytes to be judged as a graph: sound, damaged, random or extreme.
+/// Bytes to be judged as a graph, mostly of edition 2.
 pub fn any_graph_bytes(random: &mut Random) -> Vec<u8> {
+    if random.percent(90) {
+        any_bytes(random, Edition::Two, &LABELS)
+    } else {
+        any_bytes(random, Edition::One, &NARROW_LABELS)
+    }
+}
+
+/// Bytes to be moved, mostly of the edition that is not moved to.
+pub fn any_bytes_to_move(random: &mut Random, to: Edition) -> Vec<u8> {
+    let from_two = random.percent(match to {
+        Edition::One => 90,
+        Edition::Two => 10,
+    });
+    if from_two {
+        let labels: &[u16] = match random.within(0..5) {
+            0 => &LABELS,
+            1 => &MIXED_LABELS,
+            _ => &NARROW_LABELS,
+        };
+        any_bytes(random, Edition::Two, labels)
+    } else {
+        any_bytes(random, Edition::One, &NARROW_LABELS)
+    }
+}
+
+/// A graph that both editions can hold.
+pub fn narrow_graph(random: &mut Random) -> Graph {
+    let style = Style::with_labels(random, &NARROW_LABELS);
+    let most = random.pick(&[4, 9, 9, 9, 20, ANY_ORDER]);
+    let order = random.within(0..most);
+    graph(random, &style, order)
+}
+
+/// Sound, damaged, random or extreme.
+fn any_bytes(random: &mut Random, edition: Edition, labels: &[u16]) -> Vec<u8> {
+    let style = Style::with_labels(random, labels);
     match random.within(0..20) {
-        0..3 => random_bytes(random),
-        3..6 => extreme_graph_bytes(random),
-        6..12 => small_graph_bytes(random),
+        0..3 => random_bytes(random, edition),
+        3..6 => extreme_bytes(random, edition, style),
+        6..12 => small_bytes(random, edition, &style),
         _ => {
-            let mut bytes = small_graph_bytes(random);
+            let mut bytes = small_bytes(random, edition, &style);
             damage(random, &mut bytes);
             bytes
         }
     }
 }
 
-fn small_graph_bytes(random: &mut Random) -> Vec<u8> {
-    let style = Style::random(random);
+fn small_bytes(random: &mut Random, edition: Edition, style: &Style) -> Vec<u8> {
     let order = random.within(0..9);
-    let graph = graph(random, &style, order);
-    graph_bytes(random, &graph)
+    let graph = graph(random, style, order);
+    bytes_in(random, edition, &graph)
 }
 
 /// None or 64 vertices, or a command for a 65th; no edges or all, own edges too; sometimes damaged.
-fn extreme_graph_bytes(random: &mut Random) -> Vec<u8> {
-    let mut style = Style::random(random);
+fn extreme_bytes(random: &mut Random, edition: Edition, mut style: Style) -> Vec<u8> {
     style.density = random.pick(&[0, 0, 0, 10, 100]);
     style.own = random.pick(&[0, 10, 100, 100]);
     let order = random.pick(&[0, 63, 64, 64]);
     let graph = graph(random, &style, order);
-    let mut bytes = graph.save();
+    let mut bytes = edition.save(&graph);
     if random.percent(40) {
-        let command = 2 * random.within(0..order + 1);
-        bytes.splice(command..command, [1, random.pick(&[0, 1, 255])]);
+        let labels: &[u16] = match edition {
+            Edition::One => &[0, 1, 255],
+            Edition::Two => &[0, 1, 255, 256, 256, 65_535],
+        };
+        let command = edition.vertex(random.pick(labels));
+        let number = random.within(0..order + 1);
+        let number = random.pick(&[number, order]);
+        let place = edition.head().len() + command.len() * number;
+        bytes.splice(place..place, command);
     }
     if random.percent(30) {
         damage(random, &mut bytes);
@@ -440,15 +522,22 @@ fn extreme_graph_bytes(random: &mut Random) -> Vec<u8> {
     bytes
 }
 
-/// Mostly bytes that mean something.
-fn random_bytes(random: &mut Random) -> Vec<u8> {
+/// Mostly bytes that mean something, and mostly begun as the edition begins.
+fn random_bytes(random: &mut Random, edition: Edition) -> Vec<u8> {
+    let mut bytes = Vec::new();
+    if random.percent(80) {
+        bytes.extend(edition.head());
+    }
     let length = random.within(0..14);
-    (0..length).map(|_| telling_byte(random)).collect()
+    bytes.extend((0..length).map(|_| telling_byte(random)));
+    bytes
 }
 
 fn telling_byte(random: &mut Random) -> u8 {
     if random.percent(80) {
-        random.pick(&[0, 0, 1, 1, 1, 2, 2, 3, 4, 16, 17, 18, 19, 20, 63, 64, 255])
+        random.pick(&[
+            0, 0, 0, 1, 1, 1, 2, 2, 3, 3, 4, 16, 17, 18, 19, 20, 63, 64, 255,
+        ])
     } else {
         random.byte()
     }

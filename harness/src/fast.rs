@@ -16,6 +16,7 @@
 pub mod clique;
 
 use std::array;
+use std::collections::BTreeMap;
 
 use crate::reference::{entries_from_bytes, Checkpoint, Problem, MAX_VERTICES, UNMAPPED};
 
@@ -213,19 +214,23 @@ fn root(problem: &Problem) -> Level {
         new,
         substitutes,
     } = problem;
-    let mut labelled = [0; 256];
+    let mut labelled = BTreeMap::<u16, u64>::new();
     // by the label of its own edge, 0 for none
     let mut holding = [0; 256];
     for vertex in 0..new.order() {
-        labelled[usize::from(new.label(vertex))] |= 1 << vertex;
+        *labelled.entry(new.label(vertex)).or_default() |= 1 << vertex;
         holding[usize::from(new.own_edge(vertex))] |= 1 << vertex;
     }
-    let mut agreeing = labelled;
-    for &[from, to] in &substitutes.pairs {
-        agreeing[usize::from(from)] |= labelled[usize::from(to)];
+    let mut agreeing = labelled.clone();
+    for [from, to] in &substitutes.pairs {
+        if let Some(word) = labelled.get(to) {
+            *agreeing.entry(*from).or_default() |= word;
+        }
     }
-    let candidates =
-        |row| agreeing[usize::from(old.label(row))] & holding[usize::from(old.own_edge(row))];
+    let candidates = |row| {
+        let agreeing = agreeing.get(&old.label(row)).copied().unwrap_or_default();
+        agreeing & holding[usize::from(old.own_edge(row))]
+    };
     array::from_fn(|row| {
         if row < old.order() {
             candidates(row)

@@ -84,14 +84,32 @@ mod c {
         ) -> u32;
 
         pub fn golfcedar_step_limit(new_order: u64, old_order: u64, value: *mut u64) -> u32;
+
+        pub fn golfcedar_to_edition_2(
+            graph: *const u8,
+            graph_len: usize,
+            out: *mut u8,
+            out_len: usize,
+            value: *mut u64,
+        ) -> u32;
+
+        pub fn golfcedar_to_edition_1(
+            graph: *const u8,
+            graph_len: usize,
+            out: *mut u8,
+            out_len: usize,
+            value: *mut u64,
+        ) -> u32;
     }
 }
 
 /// No graph has more bytes.
-pub const GRAPH_BYTES: usize = 8449;
+pub const GRAPH_BYTES: usize = 8515;
+/// No graph of edition 1 has more bytes.
+pub const EDITION_1_BYTES: usize = 8449;
 pub const CHECKPOINT_BYTES: usize = 270;
 pub const WORKSPACE_WORDS: usize = 4160;
-pub const SUBSTITUTES_BYTES: usize = 512;
+pub const SUBSTITUTES_BYTES: usize = 1024;
 /// By this list only equal labels agree.
 pub const NO_SUBSTITUTES: &[u8] = &[];
 pub const MAX_VERTICES: usize = 64;
@@ -272,6 +290,34 @@ pub fn clique(
 pub fn step_limit(new_order: u64, old_order: u64) -> Answer {
     let mut value = NOT_STORED;
     let number = unsafe { c::golfcedar_step_limit(new_order, old_order, &raw mut value) };
+    Answer {
+        number,
+        value,
+        ..Answer::default()
+    }
+}
+
+pub fn to_edition_2(graph: &[u8], out: &mut [u8]) -> Answer {
+    moved(c::golfcedar_to_edition_2, graph, out)
+}
+
+pub fn to_edition_1(graph: &[u8], out: &mut [u8]) -> Answer {
+    moved(c::golfcedar_to_edition_1, graph, out)
+}
+
+type Mover = unsafe extern "C" fn(*const u8, usize, *mut u8, usize, *mut u64) -> u32;
+
+fn moved(by: Mover, graph: &[u8], out: &mut [u8]) -> Answer {
+    let mut value = NOT_STORED;
+    let number = unsafe {
+        by(
+            graph.as_ptr(),
+            graph.len(),
+            out.as_mut_ptr(),
+            out.len(),
+            &raw mut value,
+        )
+    };
     Answer {
         number,
         value,

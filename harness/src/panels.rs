@@ -12,8 +12,8 @@ const CHANGED: usize = 5;
 
 /// A panel, and a copy of it in which a fifth of the vertices is changed, in another numbering.
 /// `holding` is the chance of an own edge, in percent.
-pub fn problem(random: &mut Random, order: usize, vertex_labels: u8, holding: usize) -> Problem {
-    let vertex_labels: Vec<u8> = (1..=vertex_labels).collect();
+pub fn problem(random: &mut Random, order: usize, vertex_labels: u16, holding: usize) -> Problem {
+    let vertex_labels: Vec<u16> = (1..=vertex_labels).collect();
     let mut panel = Panel::random(random, order, &vertex_labels);
     let mut copy = panel.clone();
     copy.change(random, &vertex_labels);
@@ -40,7 +40,7 @@ pub fn problem(random: &mut Random, order: usize, vertex_labels: u8, holding: us
 
 #[derive(Clone)]
 struct Panel {
-    labels: Vec<u8>,
+    labels: Vec<u16>,
     /// By their ends, the smaller first; no own edges.
     edges: BTreeMap<(usize, usize), u8>,
     /// One for each vertex, 0 for none.
@@ -49,7 +49,7 @@ struct Panel {
 
 impl Panel {
     /// Connected, with three edges for two vertices: a vertex has three on the average.
-    fn random(random: &mut Random, order: usize, vertex_labels: &[u8]) -> Panel {
+    fn random(random: &mut Random, order: usize, vertex_labels: &[u16]) -> Panel {
         let mut panel = Panel {
             labels: (0..order).map(|_| random.pick(vertex_labels)).collect(),
             edges: BTreeMap::new(),
@@ -76,7 +76,7 @@ impl Panel {
     }
 
     /// A changed vertex has a label of its own choice, and one of its edges leads elsewhere.
-    fn change(&mut self, random: &mut Random, vertex_labels: &[u8]) {
+    fn change(&mut self, random: &mut Random, vertex_labels: &[u16]) {
         let mut vertices: Vec<usize> = (0..self.labels.len()).collect();
         random.shuffle(&mut vertices);
         vertices.truncate(self.labels.len() / CHANGED);

@@ -4,6 +4,7 @@
 mod calls;
 mod checkpoint;
 mod clique;
+mod edition;
 mod graph;
 mod mapping;
 mod search;
@@ -11,9 +12,10 @@ mod step_limit;
 mod substitutes;
 
 pub use calls::{check_graph, check_mapping, clique, read_out, resume, start, step_limit};
-pub use calls::{CHECKPOINT_BYTES, WORKSPACE_WORDS};
+pub use calls::{to_edition_1, to_edition_2, CHECKPOINT_BYTES, WORKSPACE_WORDS};
 pub use checkpoint::Checkpoint;
 pub use clique::clique_branch;
+pub use edition::Edition;
 pub use graph::{Graph, Problem, MAX_VERTICES};
 pub use mapping::{check, entries_from_bytes, entries_to_bytes, size, Entry, UNMAPPED};
 pub use search::{advance, ceiling, Node};
@@ -45,6 +47,8 @@ pub enum Reason {
     SubstituteLabelZero = 24,
     TooManyOldVertices = 25,
     SizeTooLarge = 26,
+    OtherBeginning = 27,
+    LabelAboveByte = 28,
 }
 
 /// A reason with the place or row that 01 gives along with it, 0 where it gives none.

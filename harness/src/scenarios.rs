@@ -6,13 +6,13 @@ use std::ops::RangeInclusive;
 
 use crate::answer::Answer;
 use crate::brute;
-use crate::call::{Buffer, Call, Clique, Given, Outcome, Resume, LIBRARY, REFERENCE};
+use crate::call::{Buffer, Call, Clique, Given, Move, Outcome, Resume, LIBRARY, REFERENCE};
 use crate::cases::{self, ANY_ORDER};
 use crate::fast;
-use crate::library::CLIQUE_VERTICES;
+use crate::library::{CLIQUE_VERTICES, GRAPH_BYTES};
 use crate::random::Random;
-use crate::reference::{advance, entries_from_bytes, entries_to_bytes, Checkpoint, Graph, Problem};
-use crate::reference::{Substitutes, CHECKPOINT_BYTES, MAX_VERTICES, WORKSPACE_WORDS};
+use crate::reference::{advance, entries_from_bytes, entries_to_bytes, Checkpoint, Edition, Graph};
+use crate::reference::{Problem, Substitutes, CHECKPOINT_BYTES, MAX_VERTICES, WORKSPACE_WORDS};
 
 /// The error is what to print about a disagreement.
 pub type Verdict<T> = Result<T, String>;
@@ -27,13 +27,15 @@ pub struct Kind {
     scenario: Scenario,
 }
 
-pub const KINDS: [Kind; 15] = [
-    kind("graph", 150, graph),
-    kind("mapping", 180, mapping),
+pub const KINDS: [Kind; 17] = [
+    kind("graph", 130, graph),
+    kind("mover", 60, mover),
+    kind("moved", 10, moved),
+    kind("mapping", 170, mapping),
     kind("start", 50, start),
     kind("room", 40, room),
-    kind("crafted", 160, crafted),
-    kind("damaged", 150, damaged),
+    kind("crafted", 140, crafted),
+    kind("damaged", 130, damaged),
     kind("small", 130, small),
     kind("relisted", 30, relisted),
     kind("rewired", 20, rewired),
@@ -69,8 +71,9 @@ pub struct Judge {
     pub comparisons: u64,
     /// How often each number was answered.
     pub answers: BTreeMap<u32, u64>,
-    /// How often a list was at fault, or clique branching had too many old vertices: by the number,
-    /// and by what the call answers without that fault, 0 where nothing else is wrong.
+    /// How often a list was at fault, or clique branching had too many old vertices, or a label did
+    /// not fit the edition: by the number, and by what the call answers without that fault, 0 where
+    /// nothing else is wrong.
     pub faults: BTreeMap<(u32, u32), u64>,
     /// How often own edges were what a call was refused for: by its number, and by what the call
     /// answers without any own edges, 0 where nothing else is wrong.
@@ -115,7 +118,7 @@ impl Judge {
 }
 
 /// What is wrong with the list and with the number of old vertices, whether or not the call comes
-/// to it, each with the call that has this fault no more.
+/// to it, and with labels that are to be moved, each with the call that has this fault no more.
 fn faults(call: &Call) -> Vec<(u32, Call)> {
     let mut faults = Vec::new();
     if let Some(given) = call.given() {
@@ -123,6 +126,10 @@ fn faults(call: &Call) -> Vec<(u32, Call)> {
             let without = call.clone().without_substitutes();
             faults.push((refusal.reason as u32, without));
         }
+    }
+    if let Call::Move(call) = call {
+        let without = call.with_narrow_labels();
+        faults.extend(without.map(|without| (28, Call::Move(without))));
     }
     if let Call::Clique(call) = call {
         match Graph::parse(&call.given.old) {
@@ -159,6 +166,46 @@ fn refused_for_own_edges(call: &Call, expected: &Outcome) -> Option<u32> {
 
 fn graph(judge: &mut Judge, random: &mut Random) -> Verdict<()> {
     let graph = cases::any_graph_bytes(random);
+    judge.compare(Call::CheckGraph { graph }).map(drop)
+}
+
+/// Any bytes, to either edition, with enough room or too little.
+fn mover(judge: &mut Judge, random: &mut Random) -> Verdict<()> {
+    let to = random.pick(&[Edition::One, Edition::Two]);
+    let graph = cases::any_bytes_to_move(random, to);
+    let needed = to.moved_here(&graph).map_or(0, |bytes| bytes.len());
+    let length = match random.within(0..10) {
+        0 => random.within(0..needed + 1),
+        1 => needed.saturating_sub(1),
+        2..6 => needed + random.pick(&[0, 0, 1, 30]),
+        _ => GRAPH_BYTES,
+    };
+    let out = pattern(random, length, GRAPH_BYTES);
+    let call = Call::Move(Move { to, graph, out });
+    judge.compare(call).map(drop)
+}
+
+/// A file of either edition moved to the other and back, with every length of the output near the
+/// one needed: each time it is what that edition's writer gives of the same graph.
+fn moved(judge: &mut Judge, random: &mut Random) -> Verdict<()> {
+    let whole = cases::narrow_graph(random);
+    let [first, second] = match random.percent(50) {
+        true => [Edition::One, Edition::Two],
+        false => [Edition::Two, Edition::One],
+    };
+    let mut graph = cases::bytes_in(random, first, &whole);
+    for to in [second, first] {
+        let due = to.save(&whole);
+        for length in near(due.len()) {
+            let out = pattern(random, length, GRAPH_BYTES);
+            let graph = graph.clone();
+            let call = Move { to, graph, out };
+            let expected = call.writing(&due);
+            judge.compare_with(Call::Move(call), expected)?;
+        }
+        graph = due;
+    }
+    let graph = Edition::Two.save(&whole);
     judge.compare(Call::CheckGraph { graph }).map(drop)
 }
 

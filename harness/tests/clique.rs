@@ -8,13 +8,13 @@ use harness::reference::{CHECKPOINT_BYTES, MAX_VERTICES, UNMAPPED, WORKSPACE_WOR
 
 /// 01's pair P.
 const P: [&[u8]; 2] = [
-    &[1, 7, 1, 9, 1, 7, 2, 0, 1, 1, 2, 1, 2, 1, 0],
-    &[1, 9, 1, 7, 2, 0, 1, 1, 0],
+    &[4, 2, 3, 7, 0, 3, 9, 0, 3, 7, 0, 2, 0, 1, 1, 2, 1, 2, 1, 0],
+    &[4, 2, 3, 9, 0, 3, 7, 0, 2, 0, 1, 1, 0],
 ];
-const EMPTY: &[u8] = &[0];
-const SEVEN: &[u8] = &[1, 7, 0];
-const TWO_SEVENS: &[u8] = &[1, 7, 1, 7, 0];
-const NINE: &[u8] = &[1, 9, 0];
+const EMPTY: &[u8] = &[4, 2, 0];
+const SEVEN: &[u8] = &[4, 2, 3, 7, 0, 0];
+const TWO_SEVENS: &[u8] = &[4, 2, 3, 7, 0, 3, 7, 0, 0];
+const NINE: &[u8] = &[4, 2, 3, 9, 0, 0];
 /// What a buffer holds before a call.
 const BEFORE: u8 = 0x55;
 
@@ -33,13 +33,14 @@ fn refused(number: u32) -> Answer {
 
 /// So many vertices of one label, and no edges.
 fn unlinked(order: usize, label: u8) -> Vec<u8> {
-    [[1, label].repeat(order), vec![0]].concat()
+    [vec![4, 2], [3, label, 0].repeat(order), vec![0]].concat()
 }
 
 /// So many vertices whose labels rise from `first` on, and no edges.
-fn rising(order: u8, first: u8) -> Vec<u8> {
-    let vertices = (0..order).flat_map(|vertex| [1, first + vertex]);
-    vertices.chain([0]).collect()
+fn rising(order: u16, first: u16) -> Vec<u8> {
+    let vertex = |label: u16| [&[3][..], &label.to_le_bytes()].concat();
+    let vertices = (first..first + order).flat_map(vertex);
+    [4, 2].into_iter().chain(vertices).chain([0]).collect()
 }
 
 /// What is held; the bytes after it must be as they were, and the size must be the mapping's.
@@ -108,8 +109,13 @@ fn marked_examples() {
         }
         holds(by, [EMPTY, EMPTY, NO_SUBSTITUTES], 0, &[]);
         holds_nothing(by, [EMPTY, EMPTY, NO_SUBSTITUTES], 1);
-        let edge: &[u8] = &[1, 7, 1, 9, 2, 0, 1, 1, 0];
-        holds(by, [edge, &[1, 7, 1, 9, 0], NO_SUBSTITUTES], 0, &[0, 255]);
+        let edge: &[u8] = &[4, 2, 3, 7, 0, 3, 9, 0, 2, 0, 1, 1, 0];
+        holds(
+            by,
+            [edge, &[4, 2, 3, 7, 0, 3, 9, 0, 0], NO_SUBSTITUTES],
+            0,
+            &[0, 255],
+        );
     });
 }
 
@@ -132,11 +138,13 @@ fn the_first_of_the_largest_is_held() {
 fn a_larger_mapping_that_comes_later_is_held() {
     each(|by| {
         // row 0 on vertex 0 leaves nothing to rows 1 and 2, on vertex 1 it leaves both
-        let old: &[u8] = &[1, 7, 1, 8, 1, 9, 0];
-        let new: &[u8] = &[1, 7, 1, 7, 1, 8, 1, 9, 2, 0, 2, 1, 2, 0, 3, 1, 0];
+        let old: &[u8] = &[4, 2, 3, 7, 0, 3, 8, 0, 3, 9, 0, 0];
+        let new: &[u8] = &[
+            4, 2, 3, 7, 0, 3, 7, 0, 3, 8, 0, 3, 9, 0, 2, 0, 2, 1, 2, 0, 3, 1, 0,
+        ];
         holds(by, [old, new, NO_SUBSTITUTES], 0, &[1, 2, 3]);
         // with vertex 0 alone it is row 0 that is left out
-        let alone: &[u8] = &[1, 7, 1, 8, 1, 9, 2, 0, 1, 1, 2, 0, 2, 1, 0];
+        let alone: &[u8] = &[4, 2, 3, 7, 0, 3, 8, 0, 3, 9, 0, 2, 0, 1, 1, 2, 0, 2, 1, 0];
         holds(by, [old, alone, NO_SUBSTITUTES], 0, &[255, 1, 2]);
         holds_nothing(by, [old, alone, NO_SUBSTITUTES], 3);
     });
@@ -146,7 +154,7 @@ fn a_larger_mapping_that_comes_later_is_held() {
 #[test]
 fn kept_vertices_need_not_hang_together() {
     each(|by| {
-        let path: &[u8] = &[1, 7, 1, 7, 1, 7, 2, 0, 1, 1, 0];
+        let path: &[u8] = &[4, 2, 3, 7, 0, 3, 7, 0, 3, 7, 0, 2, 0, 1, 1, 0];
         for minimum in [0, 1, 3] {
             holds(by, [path, path, NO_SUBSTITUTES], minimum, &[0, 1, 2]);
         }
@@ -159,19 +167,19 @@ fn kept_vertices_need_not_hang_together() {
 fn a_pair_fits_every_pair_taken() {
     each(|by| {
         // unlinked on linked, and linked on unlinked
-        let edge: &[u8] = &[1, 7, 1, 7, 2, 0, 1, 1, 0];
+        let edge: &[u8] = &[4, 2, 3, 7, 0, 3, 7, 0, 2, 0, 1, 1, 0];
         holds(by, [TWO_SEVENS, edge, NO_SUBSTITUTES], 0, &[0, 255]);
         holds(by, [edge, TWO_SEVENS, NO_SUBSTITUTES], 0, &[0, 255]);
         // linked by another label
-        let other: &[u8] = &[1, 7, 1, 7, 2, 0, 1, 2, 0];
+        let other: &[u8] = &[4, 2, 3, 7, 0, 3, 7, 0, 2, 0, 1, 2, 0];
         holds(by, [edge, other, NO_SUBSTITUTES], 0, &[0, 255]);
         // the one new vertex twice, with a row between
-        let apart: &[u8] = &[1, 7, 1, 9, 1, 7, 0];
-        let once: &[u8] = &[1, 7, 1, 9, 0];
+        let apart: &[u8] = &[4, 2, 3, 7, 0, 3, 9, 0, 3, 7, 0, 0];
+        let once: &[u8] = &[4, 2, 3, 7, 0, 3, 9, 0, 0];
         holds(by, [apart, once, NO_SUBSTITUTES], 0, &[0, 1, 255]);
         // row 2 fits row 1, but not row 0: 0-2 is linked in the old graph only
-        let rows: &[u8] = &[1, 7, 1, 8, 1, 9, 2, 0, 2, 1, 0];
-        let flat: &[u8] = &[1, 7, 1, 8, 1, 9, 0];
+        let rows: &[u8] = &[4, 2, 3, 7, 0, 3, 8, 0, 3, 9, 0, 2, 0, 2, 1, 0];
+        let flat: &[u8] = &[4, 2, 3, 7, 0, 3, 8, 0, 3, 9, 0, 0];
         holds(by, [rows, flat, NO_SUBSTITUTES], 0, &[0, 1, 255]);
         holds(by, [flat, rows, NO_SUBSTITUTES], 0, &[0, 1, 255]);
     });
@@ -180,21 +188,27 @@ fn a_pair_fits_every_pair_taken() {
 #[test]
 fn the_list_is_read_for_vertices_only() {
     each(|by| {
-        holds(by, [SEVEN, NINE, &[7, 9]], 0, &[0]);
-        holds(by, [SEVEN, NINE, &[7, 9]], 1, &[0]);
-        holds(by, [SEVEN, NINE, &[7, 8, 7, 9]], 1, &[0]);
-        let silent: [&[u8]; 4] = [NO_SUBSTITUTES, &[9, 7], &[7, 8, 8, 9], &[9, 7, 9, 9]];
+        holds(by, [SEVEN, NINE, &[7, 0, 9, 0]], 0, &[0]);
+        holds(by, [SEVEN, NINE, &[7, 0, 9, 0]], 1, &[0]);
+        holds(by, [SEVEN, NINE, &[7, 0, 8, 0, 7, 0, 9, 0]], 1, &[0]);
+        let silent: [&[u8]; 5] = [
+            NO_SUBSTITUTES,
+            &[7, 1, 9, 0],
+            &[9, 0, 7, 0],
+            &[7, 0, 8, 0, 8, 0, 9, 0],
+            &[9, 0, 7, 0, 9, 0, 9, 0],
+        ];
         for list in silent {
             holds(by, [SEVEN, NINE, list], 0, &[255]);
             holds_nothing(by, [SEVEN, NINE, list], 1);
         }
-        let full = [&[7, 8].repeat(255)[..], &[7, 9]].concat();
+        let full = [&[7, 0, 8, 0].repeat(255)[..], &[7, 0, 9, 0]].concat();
         holds(by, [SEVEN, NINE, &full], 1, &[0]);
-        let old: &[u8] = &[1, 7, 1, 7, 2, 0, 1, 7, 0];
-        let new: &[u8] = &[1, 9, 1, 9, 2, 0, 1, 9, 0];
-        holds(by, [old, new, &[7, 9]], 0, &[0, 255]);
-        let alike: &[u8] = &[1, 9, 1, 9, 2, 0, 1, 7, 0];
-        holds(by, [old, alike, &[7, 9]], 0, &[0, 1]);
+        let old: &[u8] = &[4, 2, 3, 7, 0, 3, 7, 0, 2, 0, 1, 7, 0];
+        let new: &[u8] = &[4, 2, 3, 9, 0, 3, 9, 0, 2, 0, 1, 9, 0];
+        holds(by, [old, new, &[7, 0, 9, 0]], 0, &[0, 255]);
+        let alike: &[u8] = &[4, 2, 3, 9, 0, 3, 9, 0, 2, 0, 1, 7, 0];
+        holds(by, [old, alike, &[7, 0, 9, 0]], 0, &[0, 1]);
     });
 }
 
@@ -206,17 +220,17 @@ fn eight_old_vertices_are_accepted() {
         let all: Vec<u8> = (0..8).collect();
         holds(by, [&eight, &eight, NO_SUBSTITUTES], 8, &all);
         holds_nothing(by, [&eight, &eight, NO_SUBSTITUTES], 9);
-        let turned: Vec<u8> = eight[..16].rchunks(2).flatten().copied().collect();
-        let turned = [&turned[..], &[0]].concat();
+        let turned: Vec<u8> = eight[2..26].rchunks(3).flatten().copied().collect();
+        let turned = [&[4, 2], &turned[..], &[0]].concat();
         let down: Vec<u8> = (0..8).rev().collect();
         holds(by, [&eight, &turned, NO_SUBSTITUTES], 0, &down);
         holds(by, [&eight, EMPTY, NO_SUBSTITUTES], 0, &[255; 8]);
         // the last eight of 64
-        let [wide, last] = [rising(64, 101), rising(8, 157)];
+        let [wide, last] = [rising(64, 201), rising(8, 257)];
         let due: Vec<u8> = (56..64).collect();
         holds(by, [&last, &wide, NO_SUBSTITUTES], 8, &due);
         for order in 0..=8 {
-            let list = [99, 1, 99, 2];
+            let list = [99, 0, 1, 0, 99, 0, 2, 0];
             let old = unlinked(order, 99);
             let due: Vec<u8> = [0, 1].into_iter().chain([255; 8]).take(order).collect();
             let size = order.min(2) as u8;
@@ -260,7 +274,7 @@ fn more_than_eight_old_vertices_are_25() {
         // it is about the old graph only
         for order in [8, 9, 64] {
             let new = unlinked(order, 9);
-            let given = [SEVEN, &new[..], &[7, 9]];
+            let given = [SEVEN, &new[..], &[7, 0, 9, 0]];
             assert_eq!(held(by, given, 1), Some(vec![0]), "{order}");
         }
     });
@@ -270,18 +284,20 @@ fn more_than_eight_old_vertices_are_25() {
 fn graphs_at_fault_come_before_all_else() {
     each(|by| {
         let crowd = unlinked(9, 7);
-        let graphs: [([&[u8]; 2], u32, u64); 9] = [
+        let graphs: [([&[u8]; 2], u32, u64); 11] = [
             ([&[], EMPTY], 1, 0),
-            ([&crowd[..18], &[]], 1, 18),
-            ([&crowd, &[1, 9]], 1, 2),
-            ([&crowd, &[3]], 2, 0),
-            ([&[1, 7, 3], &[4]], 2, 2),
-            ([&crowd, &[1, 7, 2, 0, 1, 1, 0]], 5, 2),
-            ([&crowd, &[1, 7, 2, 0, 0, 0, 0]], 7, 2),
-            ([&crowd, &[1, 7, 0, 0]], 9, 3),
-            ([&[crowd.clone(), vec![0]].concat(), EMPTY], 9, 19),
+            ([&crowd[..29], &[]], 1, 29),
+            ([&crowd, &[4, 2, 3, 9, 0]], 1, 5),
+            ([&crowd, &[4, 2, 5]], 2, 2),
+            ([&[4, 2, 3, 7, 0, 1], &[4]], 2, 5),
+            ([&crowd, &[4, 2, 3, 7, 0, 2, 0, 1, 1, 0]], 5, 5),
+            ([&crowd, &[4, 2, 3, 7, 0, 2, 0, 0, 0, 0]], 7, 5),
+            ([&crowd, &[4, 2, 3, 7, 0, 0, 0]], 9, 6),
+            ([&[crowd.clone(), vec![0]].concat(), EMPTY], 9, 30),
+            ([&[1, 7, 0], &[]], 27, 0),
+            ([&crowd, &[0]], 27, 0),
         ];
-        let lists: [&[u8]; 4] = [NO_SUBSTITUTES, &[7], &[7, 0], &[0; 514]];
+        let lists: [&[u8]; 4] = [NO_SUBSTITUTES, &[7], &[7, 0, 0, 0], &[0; 1028]];
         for ([old, new], number, value) in graphs {
             for list in lists {
                 let due = Answer {
@@ -299,13 +315,14 @@ fn graphs_at_fault_come_before_all_else() {
 #[test]
 fn the_list_comes_before_25_and_25_before_13() {
     each(|by| {
-        let faulty: [(&[u8], u32); 6] = [
+        let faulty: [(&[u8], u32); 7] = [
             (&[7], 23),
             (&[0], 23),
-            (&[7; 514], 23),
-            (&[0; 513], 23),
-            (&[7, 0], 24),
-            (&[0, 7, 7, 9], 24),
+            (&[7, 9], 23),
+            (&[7; 1028], 23),
+            (&[0; 1025], 23),
+            (&[7, 0, 0, 0], 24),
+            (&[0, 0, 7, 0, 7, 0, 9, 0], 24),
         ];
         for order in [0, 1, 8, 9, 64] {
             let old = unlinked(order, 7);
@@ -314,7 +331,7 @@ fn the_list_comes_before_25_and_25_before_13() {
                     let answer = call(by, [&old, NINE, list], room);
                     assert_eq!(answer, refused(number), "{} {order}", by.name);
                 }
-                let good: [&[u8]; 3] = [NO_SUBSTITUTES, &[7, 9], &[7; 512]];
+                let good: [&[u8]; 3] = [NO_SUBSTITUTES, &[7, 0, 9, 0], &[7; 1024]];
                 for list in good {
                     let answer = call(by, [&old, NINE, list], room);
                     let due = match order {

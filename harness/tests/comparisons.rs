@@ -2,11 +2,12 @@
 
 use std::thread;
 
-use harness::call::{Buffer, Call, Clique, Given, Resume, LIBRARY};
+use harness::call::{Buffer, Call, Clique, Given, Move, Resume, LIBRARY};
 use harness::cases::{graph, Style};
-use harness::library::{CLIQUE_VERTICES, SUBSTITUTES_BYTES};
+use harness::library::{CLIQUE_VERTICES, GRAPH_BYTES, SUBSTITUTES_BYTES};
 use harness::random::Random;
-use harness::reference::{Checkpoint, CHECKPOINT_BYTES, MAX_VERTICES, WORKSPACE_WORDS};
+use harness::reference::{Checkpoint, Edition, Graph};
+use harness::reference::{CHECKPOINT_BYTES, MAX_VERTICES, WORKSPACE_WORDS};
 use harness::scenarios::{Judge, KINDS};
 
 #[test]
@@ -23,17 +24,17 @@ fn each_kind_agrees() {
 
 /// Each function on two graphs of 64 vertices and all edges, and on a full list; clique branching on
 /// as many old vertices as it takes.
-fn heavy_calls() -> [Call; 7] {
+fn heavy_calls() -> [Call; 9] {
     let style = Style {
         vertex_labels: vec![7],
         edge_labels: vec![1, 2],
         density: 100,
         own: 100,
     };
-    let bytes = |seed| graph(&mut Random::new(seed), &style, MAX_VERTICES).save();
+    let full = |seed| graph(&mut Random::new(seed), &style, MAX_VERTICES);
     let given = Given {
-        old: bytes(1),
-        new: bytes(2),
+        old: full(1).save(),
+        new: full(2).save(),
         substitutes: vec![9; SUBSTITUTES_BYTES],
     };
     let checkpoint = Checkpoint::fresh(0).save();
@@ -60,6 +61,8 @@ fn heavy_calls() -> [Call; 7] {
             new_order: MAX_VERTICES as u64,
             old_order: MAX_VERTICES as u64,
         },
+        Call::Move(full_move(Edition::One, &full(1))),
+        Call::Move(full_move(Edition::Two, &full(1))),
         Call::Resume(Resume {
             given,
             checkpoint,
@@ -68,6 +71,18 @@ fn heavy_calls() -> [Call; 7] {
             next: Buffer::filled(0, CHECKPOINT_BYTES, CHECKPOINT_BYTES),
         }),
     ]
+}
+
+fn full_move(to: Edition, graph: &Graph) -> Move {
+    let from = match to {
+        Edition::One => Edition::Two,
+        Edition::Two => Edition::One,
+    };
+    Move {
+        to,
+        graph: from.save(graph),
+        out: Buffer::filled(0, GRAPH_BYTES, GRAPH_BYTES),
+    }
 }
 
 /// Eight rows, and 64 new vertices for each as long as none before it has one: all choices of all

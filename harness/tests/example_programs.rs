@@ -1,4 +1,5 @@
-//! The two programs of `examples/`: what they print and refuse, and the file that they share.
+//! The programs of `examples/`: what they print and refuse, the file that the two of `resume` share,
+//! and the files that `move` writes.
 
 use std::fs;
 use std::path::{Path, PathBuf};
@@ -6,8 +7,11 @@ use std::process::{Command, Output};
 use std::sync::LazyLock;
 
 /// 01's pair P.
-const OLD: [u8; 15] = [1, 7, 1, 9, 1, 7, 2, 0, 1, 1, 2, 1, 2, 1, 0];
-const NEW: [u8; 9] = [1, 9, 1, 7, 2, 0, 1, 1, 0];
+const OLD: [u8; 20] = [4, 2, 3, 7, 0, 3, 9, 0, 3, 7, 0, 2, 0, 1, 1, 2, 1, 2, 1, 0];
+const NEW: [u8; 13] = [4, 2, 3, 9, 0, 3, 7, 0, 2, 0, 1, 1, 0];
+/// The same two in edition 1.
+const OLD_BEFORE: [u8; 15] = [1, 7, 1, 9, 1, 7, 2, 0, 1, 1, 2, 1, 2, 1, 0];
+const NEW_BEFORE: [u8; 9] = [1, 9, 1, 7, 2, 0, 1, 1, 0];
 /// The checkpoint of P with minimum 1 after 4 visits, as README.md has it.
 const CHECKPOINT: [u8; 24] = [
     16, 1, 17, 4, 0, 0, 0, 0, 0, 0, 0, 18, 1, 19, 1, 19, 255, 20, 1, 20, 0, 20, 255, 0,
@@ -19,13 +23,17 @@ const HELD: &str = "state unfinished\nsteps 4\nsize 2\nceiling 3\n\
 const FINISHED: &str = "state finished\nsteps 6\nsize 2\nceiling 3\n\
     0 maps to 1\n1 maps to 0\n2 is left out\n";
 
-static C_PROGRAM: LazyLock<PathBuf> = LazyLock::new(|| {
-    let program = Path::new(env!("CARGO_TARGET_TMPDIR")).join("resume");
+static C_PROGRAM: LazyLock<PathBuf> = LazyLock::new(|| built("resume", "-std=c11"));
+static MOVE: LazyLock<PathBuf> = LazyLock::new(|| built("move", "-std=c99"));
+
+fn built(name: &str, standard: &str) -> PathBuf {
+    let program = Path::new(env!("CARGO_TARGET_TMPDIR")).join(name);
     let harness = Path::new(env!("CARGO_MANIFEST_DIR"));
     let status = Command::new("cc")
-        .args(["-std=c11", "-Wall", "-Wextra", "-Werror", "-O2", "-I"])
+        .args([standard, "-Wall", "-Wextra", "-pedantic", "-Werror", "-O2"])
+        .arg("-I")
         .arg(harness.join("../include"))
-        .arg(harness.join("../examples/resume.c"))
+        .arg(harness.join(format!("../examples/{name}.c")))
         .arg(env!("GOLFCEDAR_ARCHIVE"))
         .arg("-o")
         .arg(&program)
@@ -33,7 +41,7 @@ static C_PROGRAM: LazyLock<PathBuf> = LazyLock::new(|| {
         .unwrap();
     assert!(status.success());
     program
-});
+}
 
 fn c_program() -> &'static Path {
     &C_PROGRAM
@@ -147,15 +155,85 @@ fn the_file_has_the_four_parts() {
         fs::remove_file(folder.0.join("saved")).unwrap();
         // about labels that do not occur
         folder.printed_with(program, &["1:2", "255:1"], &["4", "1"]);
-        let saved = saved_file(&[1, 2, 255, 1], &CHECKPOINT);
+        let saved = saved_file(&[1, 0, 2, 0, 255, 0, 1, 0], &CHECKPOINT);
         assert_eq!(folder.saved().unwrap(), saved);
+        fs::remove_file(folder.0.join("saved")).unwrap();
+        folder.printed_with(program, &["1:256", "65535:263"], &["4", "1"]);
+        let saved = saved_file(&[1, 0, 0, 1, 255, 255, 7, 1], &CHECKPOINT);
+        assert_eq!(folder.saved().unwrap(), saved);
+    });
+}
+
+#[test]
+fn a_file_from_before_edition_2_goes_on_with_moved_graphs() {
+    both("before-edition-2", |folder, program| {
+        let lists: [(&[&str], &[u8], &[u8]); 3] = [
+            (&[], &[], &[]),
+            (
+                &["1:2", "255:1"],
+                &[1, 2, 255, 1],
+                &[1, 0, 2, 0, 255, 0, 1, 0],
+            ),
+            (
+                &["1:2"; 256],
+                &[1, 2].repeat(256),
+                &[1, 0, 2, 0].repeat(256),
+            ),
+        ];
+        for (pairs, before, now) in lists {
+            let earlier = parts(&[&OLD_BEFORE, &NEW_BEFORE, before, &CHECKPOINT]);
+            folder.write("saved", &earlier);
+            assert_eq!(
+                folder.refused_with(program, &["7:9"], &["0"]),
+                "checkpoint saved: saved for other substitutes: name another file"
+            );
+            assert_eq!(folder.printed_with(program, pairs, &["0"]), HELD);
+            assert_eq!(folder.saved().unwrap(), saved_file(now, &CHECKPOINT));
+            for length in [0, 10, 16, 17, 27, 28, earlier.len() - 25, earlier.len() - 1] {
+                folder.write("saved", &earlier[..length]);
+                assert_eq!(
+                    folder.refused_with(program, pairs, &["0"]),
+                    "checkpoint saved: damaged, or not a file of this program",
+                    "{length}"
+                );
+            }
+        }
+        // neither graphs nor lists of either edition, and of both
+        let damaged: [&[&[u8]]; 5] = [
+            &[&OLD_BEFORE[..14], &NEW_BEFORE, &[], &CHECKPOINT],
+            &[&OLD_BEFORE, &[], &[], &CHECKPOINT],
+            &[&[], &NEW_BEFORE, &[], &CHECKPOINT],
+            &[&OLD_BEFORE, &NEW, &[], &CHECKPOINT],
+            &[&OLD_BEFORE, &NEW_BEFORE, &[7; 514], &CHECKPOINT],
+        ];
+        for bytes in damaged.map(parts) {
+            folder.write("saved", &bytes);
+            assert_eq!(
+                folder.refused(program, &["0"]),
+                "checkpoint saved: damaged, or not a file of this program",
+                "{bytes:?}"
+            );
+        }
+        folder.write("saved", &parts(&[&OLD, &NEW_BEFORE, &[], &CHECKPOINT]));
+        assert_eq!(
+            folder.refused(program, &["0"]),
+            "checkpoint saved: saved for another new graph: name another file"
+        );
+        folder.write(
+            "saved",
+            &parts(&[&NEW_BEFORE, &NEW_BEFORE, &[], &CHECKPOINT]),
+        );
+        assert_eq!(
+            folder.refused(program, &["0"]),
+            "checkpoint saved: saved for another old graph: name another file"
+        );
     });
 }
 
 #[test]
 fn a_file_from_before_there_were_substitutes_has_the_empty_list() {
     both("three-parts", |folder, program| {
-        let earlier = parts(&[&OLD, &NEW, &CHECKPOINT]);
+        let earlier = parts(&[&OLD_BEFORE, &NEW_BEFORE, &CHECKPOINT]);
         folder.write("saved", &earlier);
         assert_eq!(
             folder.refused_with(program, &["7:9"], &["0"]),
@@ -177,17 +255,19 @@ fn a_file_from_before_there_were_substitutes_has_the_empty_list() {
 #[test]
 fn substitutes_let_other_labels_agree() {
     both("substitutes", |folder, program| {
-        folder.write("old", &[1, 7, 0]);
-        folder.write("new", &[1, 9, 0]);
+        folder.write("old", &[4, 2, 3, 7, 0, 0]);
+        folder.write("new", &[4, 2, 3, 9, 0, 0]);
         let none = "state finished\nsteps 2\nsize 0\nceiling 1\n0 is left out\n";
         let one = "state finished\nsteps 3\nsize 1\nceiling 2\n0 maps to 0\n";
-        let lists: [(&[&str], &str); 6] = [
+        let lists: [(&[&str], &str); 8] = [
             (&[], none),
+            (&["263:9"], none),
+            (&["7:265"], none),
             (&["7:9"], one),
             (&["9:7"], none),
             (&["7:8", "8:9"], none),
             (&["7:8", "7:9", "7:9"], one),
-            (&["255:1", "1:255", "7:9"], one),
+            (&["65535:1", "1:65535", "7:9"], one),
         ];
         for (pairs, printed) in lists {
             assert_eq!(folder.printed_with(program, pairs, &["100"]), printed);
@@ -252,8 +332,9 @@ fn only_two_labels_are_a_substitute() {
             ":9",
             "7:0",
             "0:9",
-            "7:256",
-            "256:9",
+            "7:65536",
+            "65536:9",
+            "65543:9",
             "07:9",
             "7:09",
             "+7:9",
@@ -270,7 +351,7 @@ fn only_two_labels_are_a_substitute() {
             "7:18446744073709551625",
         ] {
             let message = format!(
-                "substitute '{word}': not two numbers from 1 to 255 in plain form, as in 7:9"
+                "substitute '{word}': not two numbers from 1 to 65535 in plain form, as in 7:9"
             );
             assert_eq!(folder.refused_with(program, &[word], &["3"]), message);
             assert_eq!(
@@ -294,8 +375,8 @@ fn at_most_256_substitutes_are_taken() {
             folder.printed_with(program, &["1:2"; 256], &["3"]),
             NOTHING_HELD
         );
-        let list = folder.saved().unwrap()[2 + OLD.len() + 2 + NEW.len()..][..514].to_vec();
-        assert_eq!(list, parts(&[&[1, 2].repeat(256)]));
+        let list = folder.saved().unwrap()[2 + OLD.len() + 2 + NEW.len()..][..1026].to_vec();
+        assert_eq!(list, parts(&[&[1, 0, 2, 0].repeat(256)]));
         assert_eq!(folder.printed_with(program, &["1:2"; 256], &["1"]), HELD);
     });
 }
@@ -303,24 +384,25 @@ fn at_most_256_substitutes_are_taken() {
 #[test]
 fn the_longest_file_is_saved_and_loaded() {
     both("longest", |folder, program| {
-        let vertices = [1, 7].repeat(64);
+        let vertices = [3, 7, 0].repeat(64);
         let edges = (0..64).flat_map(|a| (a..64).flat_map(move |b| [2, a, b, 1]));
-        let graph: Vec<u8> = vertices.into_iter().chain(edges).chain([0]).collect();
-        assert_eq!(graph.len(), 8449);
+        let commands = vertices.into_iter().chain(edges).chain([0]);
+        let graph: Vec<u8> = [4, 2].into_iter().chain(commands).collect();
+        assert_eq!(graph.len(), 8515);
         folder.write("old", &graph);
         folder.write("new", &graph);
-        let pairs = ["255:1"; 256];
+        let pairs = ["65535:1"; 256];
         // 64 vertices are mapped, and the next node too decides all of them
         let held = folder.printed_with(program, &pairs, &["65"]);
         assert!(held.starts_with("state unfinished\nsteps 65\nsize 64\nceiling 65\n"));
-        let longest = 2 + 8449 + 2 + 8449 + 2 + 512 + 2 + 270;
+        let longest = 2 + 8515 + 2 + 8515 + 2 + 1024 + 2 + 270;
         assert_eq!(folder.saved().unwrap().len(), longest);
         let finished = folder.printed_with(program, &pairs, &["100000"]);
         assert!(finished.starts_with("state finished\n") && finished.ends_with("63 maps to 63\n"));
         folder.write("new", &[&graph[..], &[0]].concat());
         assert_eq!(
             folder.refused(program, &["1"]),
-            "new graph new: refused 9 (8449)"
+            "new graph new: refused 9 (8515)"
         );
     });
 }
@@ -428,10 +510,16 @@ fn a_refused_graph_is_named() {
             folder.refused(program, &["3"]),
             "new graph new: refused 1 (0)"
         );
-        folder.write("old", &[1, 7, 2, 0, 1, 1, 0]);
+        folder.write("old", &[4, 2, 3, 7, 0, 2, 0, 1, 1, 0]);
         assert_eq!(
             folder.refused(program, &["3"]),
-            "old graph old: refused 5 (2)"
+            "old graph old: refused 5 (5)"
+        );
+        // it is not moved silently
+        folder.write("old", &OLD_BEFORE);
+        assert_eq!(
+            folder.refused(program, &["3"]),
+            "old graph old: refused 27 (0)"
         );
         fs::remove_file(folder.0.join("old")).unwrap();
         assert_eq!(
@@ -453,14 +541,14 @@ fn a_file_of_other_graphs_is_refused() {
     both("other-graphs", |folder, program| {
         assert_eq!(folder.printed(program, &["100"]), FINISHED);
         // the edge of 0 and 1 has another label
-        folder.write("new", &[1, 9, 1, 7, 2, 0, 1, 2, 0]);
+        folder.write("new", &[4, 2, 3, 9, 0, 3, 7, 0, 2, 0, 1, 2, 0]);
         assert_eq!(
             folder.refused(program, &["100"]),
             "checkpoint saved: saved for another new graph: name another file"
         );
         folder.write("new", &NEW);
         // the edge of 1 and 2 is missing
-        folder.write("old", &[1, 7, 1, 9, 1, 7, 2, 0, 1, 1, 0]);
+        folder.write("old", &[4, 2, 3, 7, 0, 3, 9, 0, 3, 7, 0, 2, 0, 1, 1, 0]);
         assert_eq!(
             folder.refused(program, &["100"]),
             "checkpoint saved: saved for another old graph: name another file"
@@ -477,7 +565,7 @@ fn a_damaged_file_is_refused() {
             let list: &[u8] = if pairs.is_empty() {
                 &[]
             } else {
-                &[1, 2, 255, 1]
+                &[1, 0, 2, 0, 255, 0, 1, 0]
             };
             let whole = saved_file(list, &CHECKPOINT);
             let cuts = (0..whole.len()).map(|length| whole[..length].to_vec());
@@ -551,4 +639,228 @@ fn too_few_or_too_many_arguments_are_refused() {
         assert_eq!(output.stderr, format!("{needs}\n").into_bytes());
         assert_eq!(folder.saved(), None);
     });
+}
+
+/// In a folder of `move`: `from` is read, and `to` is to be written.
+impl Folder {
+    fn to(&self) -> Option<Vec<u8>> {
+        fs::read(self.0.join("to")).ok()
+    }
+
+    /// What is written if these bytes are moved.
+    fn moved(&self, options: &[&str], bytes: &[u8]) -> Vec<u8> {
+        self.write("from", bytes);
+        let output = self.run(&MOVE, &[options, &["from", "to"]].concat());
+        assert_eq!(output.status.code(), Some(0), "{bytes:?} {output:?}");
+        assert!(output.stdout.is_empty() && output.stderr.is_empty());
+        assert_eq!(fs::read(self.0.join("from")).unwrap(), bytes);
+        let moved = self.to().unwrap();
+        fs::remove_file(self.0.join("to")).unwrap();
+        moved
+    }
+
+    /// The message of a run with this status, without its line end. `to` stays as it was.
+    fn not_moved(&self, arguments: &[&str], status: i32) -> String {
+        let to = self.to();
+        let output = self.run(&MOVE, arguments);
+        assert_eq!(output.status.code(), Some(status), "{output:?}");
+        assert!(output.stdout.is_empty(), "{output:?}");
+        assert_eq!(self.to(), to);
+        let message = String::from_utf8(output.stderr).unwrap();
+        message.strip_suffix('\n').unwrap().to_string()
+    }
+}
+
+/// 64 vertices and all edges, in edition 1 and in edition 2.
+fn longest_files() -> (Vec<u8>, Vec<u8>) {
+    let edges = (0..64).flat_map(|a| (a..64).flat_map(move |b| [2, a, b, 1]));
+    let rest: Vec<u8> = edges.chain([0]).collect();
+    let before = [&[1, 255].repeat(64)[..], &rest].concat();
+    let now = [&[4, 2], &[3, 255, 0].repeat(64)[..], &rest].concat();
+    assert_eq!((before.len(), now.len()), (8449, 8515));
+    (before, now)
+}
+
+#[test]
+fn a_file_moves_to_edition_2_and_back() {
+    let folder = Folder::new("move-and-back");
+    let (longest_before, longest) = longest_files();
+    let pairs: [(&[u8], &[u8]); 4] = [
+        (&OLD_BEFORE, &OLD),
+        (&NEW_BEFORE, &NEW),
+        (&[0], &[4, 2, 0]),
+        (&longest_before, &longest),
+    ];
+    for (before, now) in pairs {
+        assert_eq!(folder.moved(&[], before), now);
+        assert_eq!(folder.moved(&["--back"], now), before);
+    }
+}
+
+#[test]
+fn a_refused_file_is_not_moved() {
+    let folder = Folder::new("move-refused");
+    let cut_off = "cut off: a command is not whole, or the end is missing";
+    let moved = "not a command of edition 1 (if it begins with 4 2, it is moved already)";
+    let many = "a 65th vertex, and a graph has at most 64";
+    let not_given = "an edge of a vertex that is not given before it";
+    let given = "an edge that is given already";
+    let wide = "a vertex with a label above 255, which edition 1 does not have";
+    let not_edition_2 = "not a file of edition 2, which begins with 4 2";
+    let many_before = [1, 7].repeat(65);
+    let many_now = [&[4, 2], &[3, 7, 0].repeat(65)[..]].concat();
+    let up: [(&[u8], u32, u64, &str); 13] = [
+        (&[], 1, 0, cut_off),
+        (&[1, 7, 1], 1, 2, cut_off),
+        (&OLD_BEFORE[..14], 1, 14, cut_off),
+        (&OLD, 2, 0, moved),
+        (&[1, 7, 3, 7, 0, 0], 2, 2, moved),
+        (&[1, 0, 0], 3, 0, "a vertex with label 0"),
+        (&many_before, 4, 128, many),
+        (&[1, 7, 2, 0, 1, 1, 0], 5, 2, not_given),
+        (&[1, 7, 2, 1, 0, 1, 0], 5, 2, not_given),
+        (&[1, 7, 2, 0, 0, 0, 0], 7, 2, "an edge with label 0"),
+        (&[1, 7, 2, 0, 0, 1, 2, 0, 0, 1, 0], 8, 6, given),
+        (&[1, 7, 0, 0], 9, 3, "more bytes after the end"),
+        (&[0, 13, 10], 9, 1, "more bytes after the end"),
+    ];
+    let back: [(&[u8], u32, u64, &str); 14] = [
+        (&OLD_BEFORE, 27, 0, not_edition_2),
+        (&[4, 1, 0], 27, 0, not_edition_2),
+        (&[], 1, 0, cut_off),
+        (&[4], 1, 0, cut_off),
+        (&[4, 2], 1, 2, cut_off),
+        (&[4, 2, 1, 7, 0], 2, 2, "not a command of edition 2"),
+        (&[4, 2, 3, 0, 0, 0], 3, 2, "a vertex with label 0"),
+        (&many_now, 4, 194, many),
+        (&[4, 2, 3, 0, 1, 9], 28, 2, wide),
+        (&[4, 2, 3, 255, 0, 3, 255, 255, 0], 28, 5, wide),
+        (&[4, 2, 2, 0, 0, 1, 0], 5, 2, not_given),
+        (&[4, 2, 3, 7, 0, 2, 0, 0, 0], 7, 5, "an edge with label 0"),
+        (&[4, 2, 3, 7, 0, 2, 0, 0, 1, 2, 0, 0, 2], 8, 9, given),
+        (&[4, 2, 0, 0], 9, 3, "more bytes after the end"),
+    ];
+    let up = up.map(|case| (&["from", "to"][..], case));
+    let back = back.map(|case| (&["--back", "from", "to"][..], case));
+    for (arguments, (bytes, number, place, meaning)) in up.into_iter().chain(back) {
+        folder.write("from", bytes);
+        assert_eq!(
+            folder.not_moved(arguments, 1),
+            format!("move: from: refused {number} at byte {place}: {meaning}"),
+            "{bytes:?}"
+        );
+        assert_eq!(folder.to(), None);
+    }
+}
+
+#[test]
+fn a_file_too_long_to_move_is_refused() {
+    let folder = Folder::new("move-long");
+    let (before, now) = longest_files();
+    let refused = |arguments: &[&str], start: &str| {
+        let message = folder.not_moved(arguments, 1);
+        assert!(message.starts_with(start), "{message}");
+        assert_eq!(folder.to(), None);
+    };
+    for more in [0, 1, 100_000] {
+        let old = [&before[..], &vec![0; more]].concat();
+        let new = [&now[..], &vec![0; more]].concat();
+        folder.write("from", &old);
+        if more > 0 {
+            refused(&["from", "to"], "move: from: refused 9 at byte 8449: ");
+        }
+        // of the other edition, however long it is
+        refused(
+            &["--back", "from", "to"],
+            "move: from: refused 27 at byte 0: ",
+        );
+        folder.write("from", &new);
+        if more > 0 {
+            refused(
+                &["--back", "from", "to"],
+                "move: from: refused 9 at byte 8515: ",
+            );
+        }
+        refused(&["from", "to"], "move: from: refused 2 at byte 0: ");
+    }
+}
+
+#[test]
+fn a_file_that_is_there_is_not_overwritten_by_a_move() {
+    let folder = Folder::new("move-over");
+    let message = "move: to: is there already: name a new file";
+    for bytes in [&b"kept"[..], b""] {
+        folder.write("to", bytes);
+        folder.write("from", &OLD_BEFORE);
+        assert_eq!(folder.not_moved(&["from", "to"], 2), message);
+        folder.write("from", &OLD);
+        assert_eq!(folder.not_moved(&["--back", "from", "to"], 2), message);
+        assert_eq!(folder.to().unwrap(), bytes);
+    }
+    folder.write("to", &OLD_BEFORE);
+    assert_eq!(folder.not_moved(&["to", "to"], 2), message);
+    fs::remove_file(folder.0.join("to")).unwrap();
+    fs::create_dir(folder.0.join("to")).unwrap();
+    assert_eq!(folder.not_moved(&["--back", "old", "to"], 2), message);
+}
+
+#[test]
+fn files_that_cannot_be_read_or_written_are_not_moved() {
+    let folder = Folder::new("move-files");
+    fs::create_dir(folder.0.join("folder")).unwrap();
+    folder.write("from", &OLD_BEFORE);
+    for from in ["missing", "folder", "nowhere/from", ""] {
+        let message = format!("move: {from}: cannot be read");
+        assert_eq!(folder.not_moved(&[from, "to"], 2), message);
+        assert_eq!(folder.not_moved(&["--back", from, "to"], 2), message);
+    }
+    assert_eq!(
+        folder.not_moved(&["from", "nowhere/to"], 2),
+        "move: nowhere/to: cannot be written"
+    );
+    assert_eq!(folder.to(), None);
+}
+
+#[test]
+fn a_move_that_cannot_be_written_whole_leaves_no_file() {
+    let folder = Folder::new("move-full");
+    folder.write("from", &OLD_BEFORE);
+    let no_room = "trap '' XFSZ; ulimit -f 0; exec \"$0\" from to";
+    let output = Command::new("sh")
+        .args(["-c", no_room])
+        .arg(&*MOVE)
+        .current_dir(&folder.0)
+        .output()
+        .unwrap();
+    assert_eq!(output.status.code(), Some(2), "{output:?}");
+    assert_eq!(
+        String::from_utf8(output.stderr).unwrap(),
+        "move: to: cannot be written\n"
+    );
+    assert!(!folder.0.join("to").exists());
+}
+
+#[test]
+fn a_move_takes_two_files() {
+    let folder = Folder::new("move-arguments");
+    folder.write("from", &OLD_BEFORE);
+    folder.write("--back", &OLD_BEFORE);
+    let wrong: [&[&str]; 8] = [
+        &[],
+        &["from"],
+        &["from", "to", "more"],
+        &["--back"],
+        &["--back", "to"],
+        &["--back", "from", "to", "more"],
+        &["from", "to", "--back"],
+        &["--help"],
+    ];
+    for arguments in wrong {
+        assert_eq!(
+            folder.not_moved(arguments, 2),
+            "move needs: OLD MOVED, or --back MOVED OLD",
+            "{arguments:?}"
+        );
+    }
+    assert_eq!(folder.to(), None);
 }

@@ -1,19 +1,23 @@
 //! The marked examples at the end of 01, with the empty list, through the C interface and through
-//! the reference. 01's example of number 6 is an accepted graph (02, U4).
+//! the reference. 01's example of number 6 is an accepted graph (02, U4). They are restated in
+//! edition 2, and stand as old files for the mover (02, U6).
 
 use harness::answer::Answer;
 use harness::call::{Implementation, LIBRARY, REFERENCE};
-use harness::library::NO_SUBSTITUTES;
+use harness::library::{GRAPH_BYTES, NO_SUBSTITUTES};
 use harness::reference::{CHECKPOINT_BYTES, MAX_VERTICES, WORKSPACE_WORDS};
 
 /// 01's pair P.
 const P: [&[u8]; 2] = [
-    &[1, 7, 1, 9, 1, 7, 2, 0, 1, 1, 2, 1, 2, 1, 0],
-    &[1, 9, 1, 7, 2, 0, 1, 1, 0],
+    &[4, 2, 3, 7, 0, 3, 9, 0, 3, 7, 0, 2, 0, 1, 1, 2, 1, 2, 1, 0],
+    &[4, 2, 3, 9, 0, 3, 7, 0, 2, 0, 1, 1, 0],
 ];
-const EMPTY: [&[u8]; 2] = [&[0], &[0]];
-const ONE_AGAINST_TWO: [&[u8]; 2] = [&[1, 7, 0], &[1, 7, 1, 7, 0]];
-const EDGE_AGAINST_NONE: [&[u8]; 2] = [&[1, 7, 1, 9, 2, 0, 1, 1, 0], &[1, 7, 1, 9, 0]];
+const EMPTY: [&[u8]; 2] = [&[4, 2, 0], &[4, 2, 0]];
+const ONE_AGAINST_TWO: [&[u8]; 2] = [&[4, 2, 3, 7, 0, 0], &[4, 2, 3, 7, 0, 3, 7, 0, 0]];
+const EDGE_AGAINST_NONE: [&[u8]; 2] = [
+    &[4, 2, 3, 7, 0, 3, 9, 0, 2, 0, 1, 1, 0],
+    &[4, 2, 3, 7, 0, 3, 9, 0, 0],
+];
 
 /// More visits than any of the examples makes.
 const ENOUGH: u64 = 100;
@@ -104,16 +108,23 @@ fn searches_of(by: &Implementation) {
     }
 }
 
-fn graph_bytes_of(by: &Implementation) {
-    let refused = |number, value| Answer {
+fn refused(number: u32, value: u64) -> Answer {
+    Answer {
         number,
         ..Answer::accepted(value)
-    };
-    let table: [(&[u8], Answer); 4] = [
-        (&[0], Answer::accepted(0)),
+    }
+}
+
+fn graph_bytes_of(by: &Implementation) {
+    let table: [(&[u8], Answer); 7] = [
+        (&[4, 2, 0], Answer::accepted(0)),
         (&[], refused(1, 0)),
-        (&[1, 7, 2, 0, 1, 1, 0], refused(5, 2)),
-        (&[1, 7, 2, 0, 0, 1, 0], Answer::accepted(1)),
+        (&[4, 2, 3, 7, 0, 2, 0, 1, 1, 0], refused(5, 5)),
+        (&[4, 2, 3, 7, 0, 2, 0, 0, 1, 0], Answer::accepted(1)),
+        // the old files
+        (&[0], refused(27, 0)),
+        (&[1, 7, 2, 0, 1, 1, 0], refused(27, 0)),
+        (&[1, 7, 2, 0, 0, 1, 0], refused(27, 0)),
     ];
     for (bytes, expected) in table {
         assert_eq!(
@@ -122,6 +133,43 @@ fn graph_bytes_of(by: &Implementation) {
             "{} with {bytes:?}",
             by.name
         );
+    }
+}
+
+/// An old file, and what it is in edition 2, or how it is refused.
+type OldFile<'a> = (&'a [u8], Result<&'a [u8], Answer>);
+
+fn old_files_of(by: &Implementation) {
+    let table: [OldFile; 11] = [
+        (&[1, 7, 1, 9, 1, 7, 2, 0, 1, 1, 2, 1, 2, 1, 0], Ok(P[0])),
+        (&[1, 9, 1, 7, 2, 0, 1, 1, 0], Ok(P[1])),
+        (&[0], Ok(EMPTY[0])),
+        (&[1, 7, 0], Ok(ONE_AGAINST_TWO[0])),
+        (&[1, 7, 1, 7, 0], Ok(ONE_AGAINST_TWO[1])),
+        (&[1, 7, 1, 9, 2, 0, 1, 1, 0], Ok(EDGE_AGAINST_NONE[0])),
+        (&[1, 7, 1, 9, 0], Ok(EDGE_AGAINST_NONE[1])),
+        (&[], Err(refused(1, 0))),
+        (&[1, 7, 2, 0, 1, 1, 0], Err(refused(5, 2))),
+        (&[1, 7, 2, 0, 0, 1, 0], Ok(&[4, 2, 3, 7, 0, 2, 0, 0, 1, 0])),
+        // an edition 2 file is no old one
+        (EMPTY[0], Err(refused(2, 0))),
+    ];
+    for (old, expected) in table {
+        let mut out = [0x55; GRAPH_BYTES];
+        let answer = (by.to_edition_2)(old, &mut out);
+        let (length, due) = match expected {
+            Ok(bytes) => (bytes.len(), Answer::accepted(bytes.len() as u64)),
+            Err(refusal) => (0, refusal),
+        };
+        assert_eq!(answer, due, "{} with {old:?}", by.name);
+        assert_eq!(out[..length], *expected.unwrap_or_default());
+        assert!(out[length..].iter().all(|&byte| byte == 0x55));
+        if let Ok(moved) = expected {
+            let mut back = vec![0x55; old.len()];
+            let answer = (by.to_edition_1)(moved, &mut back);
+            assert_eq!(answer, Answer::accepted(old.len() as u64));
+            assert_eq!(back, old, "{}", by.name);
+        }
     }
 }
 
@@ -143,4 +191,14 @@ fn graph_bytes_of_the_library() {
 #[test]
 fn graph_bytes_of_the_reference() {
     graph_bytes_of(&REFERENCE);
+}
+
+#[test]
+fn old_files_of_the_library() {
+    old_files_of(&LIBRARY);
+}
+
+#[test]
+fn old_files_of_the_reference() {
+    old_files_of(&REFERENCE);
 }

@@ -4,8 +4,8 @@ use harness::call::{Implementation, LIBRARY, REFERENCE};
 use harness::library::NO_SUBSTITUTES;
 use harness::reference::{MAX_VERTICES, WORKSPACE_WORDS};
 
-const OLD: &[u8] = &[1, 7, 1, 9, 1, 7, 2, 0, 1, 1, 2, 1, 2, 1, 0];
-const NEW: &[u8] = &[1, 9, 1, 7, 2, 0, 1, 1, 0];
+const OLD: &[u8] = &[4, 2, 3, 7, 0, 3, 9, 0, 3, 7, 0, 2, 0, 1, 1, 2, 1, 2, 1, 0];
+const NEW: &[u8] = &[4, 2, 3, 9, 0, 3, 7, 0, 2, 0, 1, 1, 0];
 /// A fresh checkpoint of minimum 1, and the last one of its search: 6 steps, 1 0 255 held.
 const FRESH: [u8; 14] = [16, 1, 17, 0, 0, 0, 0, 0, 0, 0, 0, 18, 0, 0];
 const LAST: [u8; 20] = [
@@ -102,7 +102,8 @@ fn every_other_refusal_comes_before_13() {
             (answer.number, answer.value)
         };
         let begun = [16, 1, 17, 1, 0, 0, 0, 0, 0, 0, 0, 18, 0, 19, 1, 0];
-        assert_eq!(resume(&[3], &FRESH, 1, &mut few), (2, 0));
+        assert_eq!(resume(&[4, 2, 5], &FRESH, 1, &mut few), (2, 2));
+        assert_eq!(resume(&[3], &FRESH, 1, &mut few), (27, 0));
         assert_eq!(resume(OLD, &[16], 1, &mut few), (17, 1));
         assert_eq!(resume(NEW, &LAST, 1, &mut few), (17, 17));
         assert_eq!(resume(OLD, &FRESH[..13], 1, &mut few), (17, 13));
@@ -116,7 +117,8 @@ fn every_other_refusal_comes_before_13() {
             answer.number
         };
         assert_eq!(read_out(NEW, &misshapen), 14);
-        assert_eq!(read_out(&[1], &LAST), 1);
+        assert_eq!(read_out(&[4], &LAST), 1);
+        assert_eq!(read_out(&[1], &LAST), 27);
         assert_eq!(read_out(NEW, &LAST), 13);
     });
 }

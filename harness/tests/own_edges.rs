@@ -28,9 +28,10 @@ fn refused(number: u32, value: u64, earlier: u64) -> Answer {
 
 /// Graph bytes: all vertices, then these edges.
 fn graph(labels: &[u8], edges: &[[u8; 3]]) -> Vec<u8> {
-    let vertices = labels.iter().flat_map(|&label| [1, label]);
+    let vertices = labels.iter().flat_map(|&label| [3, label, 0]);
     let edges = edges.iter().flat_map(|&[a, b, label]| [2, a, b, label]);
-    vertices.chain(edges).chain([0]).collect()
+    let commands = vertices.chain(edges).chain([0]);
+    [4, 2].into_iter().chain(commands).collect()
 }
 
 /// 64 vertices with all edges, own edges too.
@@ -50,18 +51,27 @@ fn own_edges_are_read_and_refused_as_any_other() {
     each(|by| {
         let table: [(&[u8], Answer); 12] = [
             // 01's example of number 6
-            (&[1, 7, 2, 0, 0, 1, 0], Answer::accepted(1)),
-            (&[1, 7, 2, 0, 0, 255, 0], Answer::accepted(1)),
-            (&[1, 7, 2, 0, 0, 0, 0], refused(7, 2, 0)),
-            (&[1, 7, 2, 0, 0, 1, 2, 0, 0, 1, 0], refused(8, 6, 0)),
-            (&[1, 7, 2, 0, 0, 1, 2, 0, 0, 2, 0], refused(8, 6, 0)),
-            (&[1, 7, 2, 0, 0, 1, 2, 0, 0, 0, 0], refused(7, 6, 0)),
-            (&[1, 7, 2, 1, 1, 1, 0], refused(5, 2, 0)),
-            (&[1, 7, 2, 1, 1, 0, 0], refused(5, 2, 0)),
-            (&[2, 0, 0, 1, 0], refused(5, 0, 0)),
-            (&[1, 7, 2, 255, 255, 1, 0], refused(5, 2, 0)),
-            (&[1, 7, 2, 0, 0], refused(1, 2, 0)),
-            (&[1, 7, 2, 0, 0, 1], refused(1, 6, 0)),
+            (&[4, 2, 3, 7, 0, 2, 0, 0, 1, 0], Answer::accepted(1)),
+            (&[4, 2, 3, 7, 0, 2, 0, 0, 255, 0], Answer::accepted(1)),
+            (&[4, 2, 3, 7, 0, 2, 0, 0, 0, 0], refused(7, 5, 0)),
+            (
+                &[4, 2, 3, 7, 0, 2, 0, 0, 1, 2, 0, 0, 1, 0],
+                refused(8, 9, 0),
+            ),
+            (
+                &[4, 2, 3, 7, 0, 2, 0, 0, 1, 2, 0, 0, 2, 0],
+                refused(8, 9, 0),
+            ),
+            (
+                &[4, 2, 3, 7, 0, 2, 0, 0, 1, 2, 0, 0, 0, 0],
+                refused(7, 9, 0),
+            ),
+            (&[4, 2, 3, 7, 0, 2, 1, 1, 1, 0], refused(5, 5, 0)),
+            (&[4, 2, 3, 7, 0, 2, 1, 1, 0, 0], refused(5, 5, 0)),
+            (&[4, 2, 2, 0, 0, 1, 0], refused(5, 2, 0)),
+            (&[4, 2, 3, 7, 0, 2, 255, 255, 1, 0], refused(5, 5, 0)),
+            (&[4, 2, 3, 7, 0, 2, 0, 0], refused(1, 5, 0)),
+            (&[4, 2, 3, 7, 0, 2, 0, 0, 1], refused(1, 9, 0)),
         ];
         for (bytes, expected) in table {
             assert_eq!((by.check_graph)(bytes), expected, "{} {bytes:?}", by.name);
@@ -80,9 +90,9 @@ fn an_edge_is_judged_by_5_then_7_then_8() {
         for (a, b) in ends.into_iter().flat_map(|a| ends.map(|b| (a, b))) {
             for label in [0, 1, 255] {
                 let due = |again: bool| match (a.max(b), label) {
-                    (2.., _) => refused(5, 4, 0),
-                    (_, 0) => refused(7, 4, 0),
-                    _ if again => refused(8, 8, 0),
+                    (2.., _) => refused(5, 8, 0),
+                    (_, 0) => refused(7, 8, 0),
+                    _ if again => refused(8, 12, 0),
                     _ => Answer::accepted(2),
                 };
                 let once = graph(&[7, 7], &[[a, b, label]]);
@@ -149,7 +159,7 @@ fn the_reference_writes_by_rising_a_then_rising_b() {
         let Problem { old, new, .. } = cases::problem(&mut random, 0..20);
         for graph in [old, new] {
             let edges = graph.edges().count();
-            assert_eq!(graph.save().len(), 2 * graph.order() + 4 * edges + 1);
+            assert_eq!(graph.save().len(), 2 + 3 * graph.order() + 4 * edges + 1);
             assert_eq!(Graph::parse(&graph.save()), Ok(graph));
         }
     }
@@ -372,7 +382,7 @@ fn own_edges_enter_the_first_candidates() {
 fn own_edges_do_not_read_the_list() {
     each(|by| {
         let graphs = |from, to| [graph(&[7], &[[0, 0, from]]), graph(&[9], &[[0, 0, to]])];
-        let list = &[7, 9];
+        let list = &[7, 0, 9, 0];
         for (from, to, answer) in [
             (1, 1, Answer::accepted(1)),
             (9, 9, Answer::accepted(1)),
@@ -430,7 +440,7 @@ fn with_own_edges_as_labels(problem: &Problem) -> Option<Problem> {
         substitutes,
     } = problem;
     let both = |graph: &Graph, vertex| (graph.label(vertex), graph.own_edge(vertex));
-    let all = |graph: &Graph| -> Vec<(u8, u8)> {
+    let all = |graph: &Graph| -> Vec<(u16, u8)> {
         (0..graph.order())
             .map(|vertex| both(graph, vertex))
             .collect()
@@ -438,7 +448,7 @@ fn with_own_edges_as_labels(problem: &Problem) -> Option<Problem> {
     let mut codes = [all(old), all(new)].concat();
     codes.sort();
     codes.dedup();
-    let code = |of: (u8, u8)| codes.binary_search(&of).ok().map(|place| place as u8 + 1);
+    let code = |of: (u16, u8)| codes.binary_search(&of).ok().map(|place| place as u16 + 1);
     let coded = |graph: &Graph| {
         let mut coded = Graph::default();
         for vertex in 0..graph.order() {
@@ -452,7 +462,7 @@ fn with_own_edges_as_labels(problem: &Problem) -> Option<Problem> {
     let mut pairs = Vec::new();
     for &[from, to] in &substitutes.pairs {
         for own in 0..=255 {
-            pairs.extend(code((from, own)).zip(code((to, own))).map(<[u8; 2]>::from));
+            pairs.extend(code((from, own)).zip(code((to, own))).map(<[u16; 2]>::from));
         }
     }
     pairs.sort();

@@ -7,8 +7,8 @@ use harness::library::NO_SUBSTITUTES;
 use harness::reference::{CHECKPOINT_BYTES, MAX_VERTICES, WORKSPACE_WORDS};
 
 /// One old vertex of label 7 and one new of label 9.
-const SEVEN: &[u8] = &[1, 7, 0];
-const NINE: &[u8] = &[1, 9, 0];
+const SEVEN: &[u8] = &[4, 2, 3, 7, 0, 0];
+const NINE: &[u8] = &[4, 2, 3, 9, 0, 0];
 /// A fresh checkpoint of minimum 0.
 const FRESH: &[u8] = &[16, 0, 17, 0, 0, 0, 0, 0, 0, 0, 0, 18, 0, 0];
 /// Of one old vertex, mapped to 0: held after 2 visits, with the search not finished.
@@ -104,50 +104,59 @@ fn judge(by: &Implementation, substitutes: &[u8], agree: bool) {
 #[test]
 fn a_listed_pair_agrees() {
     each(|by| {
-        judge(by, &[7, 9], true);
-        judge(by, &[1, 2, 7, 9], true);
-        judge(by, &[7, 9, 1, 2], true);
-        judge(by, &[7, 8, 7, 9, 7, 10], true);
+        judge(by, &[7, 0, 9, 0], true);
+        judge(by, &[1, 0, 2, 0, 7, 0, 9, 0], true);
+        judge(by, &[7, 0, 9, 0, 1, 0, 2, 0], true);
+        judge(by, &[7, 0, 8, 0, 7, 0, 9, 0, 7, 0, 10, 0], true);
         judge(by, NO_SUBSTITUTES, false);
-        judge(by, &[7, 8], false);
-        judge(by, &[8, 9], false);
+        judge(by, &[7, 0, 8, 0], false);
+        judge(by, &[8, 0, 9, 0], false);
     });
 }
 
 #[test]
 fn pairs_hold_one_way() {
     each(|by| {
-        judge(by, &[9, 7], false);
-        judge(by, &[9, 7, 9, 7], false);
-        judge(by, &[9, 7, 7, 9], true);
+        judge(by, &[9, 0, 7, 0], false);
+        judge(by, &[9, 0, 7, 0, 9, 0, 7, 0], false);
+        judge(by, &[9, 0, 7, 0, 7, 0, 9, 0], true);
     });
 }
 
 #[test]
 fn pairs_do_not_chain() {
     each(|by| {
-        judge(by, &[7, 8, 8, 9], false);
-        judge(by, &[8, 9, 7, 8], false);
-        judge(by, &[7, 7, 9, 9], false);
-        judge(by, &[7, 8, 9, 8], false);
-        judge(by, &[8, 7, 8, 9], false);
+        judge(by, &[7, 0, 8, 0, 8, 0, 9, 0], false);
+        judge(by, &[8, 0, 9, 0, 7, 0, 8, 0], false);
+        judge(by, &[7, 0, 7, 0, 9, 0, 9, 0], false);
+        judge(by, &[7, 0, 8, 0, 9, 0, 8, 0], false);
+        judge(by, &[8, 0, 7, 0, 8, 0, 9, 0], false);
     });
 }
 
-/// The bytes 9 7 9 have 7 9 in them, but no pair 7 9.
+/// The labels 9 7 9 have 7 9 in them, but no pair 7 9; nor do its four bytes at another place make
+/// one.
 #[test]
-fn pairs_begin_at_even_places() {
+fn pairs_begin_at_every_fourth_place() {
     each(|by| {
-        judge(by, &[9, 7, 9, 9], false);
-        judge(by, &[1, 7, 9, 1], false);
-        judge(by, &[7, 7, 9, 9, 7, 9], true);
+        judge(by, &[9, 0, 7, 0, 9, 0, 9, 0], false);
+        judge(by, &[1, 0, 7, 0, 9, 0, 1, 0], false);
+        judge(by, &[1, 7, 0, 9, 0, 1, 1, 1], false);
+        judge(by, &[1, 1, 1, 7, 0, 9, 0, 1], false);
+        judge(by, &[7, 0, 7, 0, 9, 0, 9, 0, 7, 0, 9, 0], true);
     });
 }
 
 #[test]
 fn equal_labels_agree_under_every_list() {
     each(|by| {
-        let lists: [&[u8]; 5] = [&[], &[7, 9], &[9, 7], &[7, 7], &[7, 8, 8, 9]];
+        let lists: [&[u8]; 5] = [
+            &[],
+            &[7, 0, 9, 0],
+            &[9, 0, 7, 0],
+            &[7, 0, 7, 0],
+            &[7, 0, 8, 0, 8, 0, 9, 0],
+        ];
         for list in lists {
             let given = [SEVEN, SEVEN, list];
             assert_eq!(check(by, given, &[0]), Answer::accepted(1), "{list:?}");
@@ -159,39 +168,101 @@ fn equal_labels_agree_under_every_list() {
 #[test]
 fn repeated_equal_and_unused_pairs_are_accepted() {
     each(|by| {
-        judge(by, &[7, 9, 7, 9, 7, 9], true);
-        judge(by, &[7, 7, 9, 9, 200, 200, 7, 9], true);
-        judge(by, &[255, 1, 1, 255, 7, 9, 254, 253], true);
-        judge(by, &[255, 1, 1, 255, 254, 253], false);
+        judge(by, &[7, 0, 9, 0, 7, 0, 9, 0, 7, 0, 9, 0], true);
+        judge(
+            by,
+            &[7, 0, 7, 0, 9, 0, 9, 0, 200, 0, 200, 0, 7, 0, 9, 0],
+            true,
+        );
+        judge(
+            by,
+            &[255, 0, 1, 0, 1, 0, 255, 0, 7, 0, 9, 0, 254, 0, 253, 0],
+            true,
+        );
+        judge(by, &[255, 0, 1, 0, 1, 0, 255, 0, 254, 0, 253, 0], false);
     });
 }
 
 #[test]
-fn up_to_512_bytes_are_read_to_the_end() {
+fn up_to_1024_bytes_are_read_to_the_end() {
     each(|by| {
         for pairs in [2, 128, 255, 256] {
-            let mut list = [7, 8].repeat(pairs);
+            let mut list = [7, 0, 8, 0].repeat(pairs);
             judge(by, &list, false);
-            let last = list.len() - 2;
-            list[last..].copy_from_slice(&[7, 9]);
+            let last = list.len() - 4;
+            list[last..].copy_from_slice(&[7, 0, 9, 0]);
             judge(by, &list, true);
-            list[last..].copy_from_slice(&[7, 8]);
-            list[..2].copy_from_slice(&[7, 9]);
+            list[last..].copy_from_slice(&[7, 0, 8, 0]);
+            list[..4].copy_from_slice(&[7, 0, 9, 0]);
             judge(by, &list, true);
         }
     });
 }
 
+/// One vertex of this label.
+fn single(label: u16) -> Vec<u8> {
+    [&[4, 2, 3][..], &label.to_le_bytes(), &[0]].concat()
+}
+
+fn pair(from: u16, to: u16) -> Vec<u8> {
+    [from.to_le_bytes(), to.to_le_bytes()].concat()
+}
+
 #[test]
 fn every_two_labels_may_be_a_pair() {
     each(|by| {
-        for (from, to) in [(1, 255), (255, 1), (127, 128), (128, 127), (255, 254)] {
-            let (old, new) = ([1, from, 0], [1, to, 0]);
+        for (from, to) in [
+            (1, 255),
+            (255, 1),
+            (127, 128),
+            (128, 127),
+            (255, 254),
+            (255, 256),
+            (1, 256),
+            (256, 1),
+            (7, 263),
+            (263, 7),
+            (65_535, 65_280),
+            (65_535, 255),
+            (1, 65_535),
+            (32_767, 32_768),
+        ] {
+            let (old, new) = (single(from), single(to));
             assert_eq!(
-                check(by, [&old, &new, &[from, to]], &[0]),
+                check(by, [&old, &new, &pair(from, to)], &[0]),
                 Answer::accepted(1)
             );
-            assert_eq!(check(by, [&old, &new, &[to, from]], &[0]), refused(21));
+            for list in [vec![], pair(to, from), pair(from, from), pair(to, to)] {
+                assert_eq!(check(by, [&old, &new, &list], &[0]), refused(21));
+            }
+        }
+    });
+}
+
+/// A pair whose labels have one byte in common with the two vertices, or their bytes turned, does
+/// not tell.
+#[test]
+fn both_bytes_of_a_label_tell() {
+    each(|by| {
+        for (from, to) in [(7, 9), (263, 7), (7, 263), (0x1234, 0x5678), (1, 256)] {
+            let (old, new) = (single(from), single(to));
+            let others = |label: u16| {
+                let bits = (0..16).map(move |bit| label ^ 1 << bit);
+                let halves = [label.swap_bytes(), label & 0xFF, label & 0xFF00];
+                bits.chain(halves)
+                    .filter(move |&other| other != 0 && other != label)
+            };
+            let lists = others(from)
+                .map(|other| pair(other, to))
+                .chain(others(to).map(|other| pair(from, other)));
+            for list in lists {
+                let given = [&old[..], &new, &list];
+                assert_eq!(check(by, given, &[0]), refused(21), "{} {list:?}", by.name);
+                assert_eq!(found(by, given).mapping, [255], "{} {list:?}", by.name);
+            }
+            let list = pair(from, to);
+            let given = [&old[..], &new, &list];
+            assert_eq!(found(by, given).mapping, [0], "{} {list:?}", by.name);
         }
     });
 }
@@ -215,13 +286,16 @@ fn all_answers(by: &Implementation, substitutes: &[u8]) -> [Answer; 4] {
 }
 
 #[test]
-fn a_list_of_odd_length_or_above_512_bytes_is_23() {
+fn a_length_that_four_does_not_divide_or_above_1024_is_23() {
     each(|by| {
-        for length in [1, 3, 255, 511, 513, 514, 515, 516, 1024, 8193, 65536, 65538] {
+        for length in [
+            1, 2, 3, 5, 6, 7, 255, 510, 514, 1022, 1023, 1025, 1026, 1027, 1028, 2048, 8193, 65536,
+            65540, 66560,
+        ] {
             let answers = all_answers(by, &vec![7; length]);
             assert_eq!(answers, [refused(23); 4], "{} {length}", by.name);
         }
-        for length in [0, 2, 256, 510, 512] {
+        for length in [0, 4, 256, 512, 516, 1020, 1024] {
             let answers = all_answers(by, &vec![7; length]);
             assert!(answers.iter().all(Answer::is_accepted), "{length}");
         }
@@ -231,12 +305,33 @@ fn a_list_of_odd_length_or_above_512_bytes_is_23() {
 #[test]
 fn a_label_0_is_24() {
     each(|by| {
-        for length in [2, 4, 512] {
+        for length in [4, 8, 1024] {
+            for label in [0, 1, length / 4, length / 2 - 2, length / 2 - 1] {
+                let mut list = vec![7; length];
+                list[2 * label..2 * label + 2].fill(0);
+                let answers = all_answers(by, &list);
+                assert_eq!(answers, [refused(24); 4], "{} {length} {label}", by.name);
+            }
+        }
+    });
+}
+
+/// One byte of a label may be 0, and so may two bytes side by side that are of two labels.
+#[test]
+fn a_byte_0_is_not_a_label_0() {
+    each(|by| {
+        for length in [4, 8, 1024] {
             for place in [0, 1, length / 2, length - 2, length - 1] {
                 let mut list = vec![7; length];
                 list[place] = 0;
                 let answers = all_answers(by, &list);
-                assert_eq!(answers, [refused(24); 4], "{} {length} {place}", by.name);
+                assert!(answers.iter().all(Answer::is_accepted), "{list:?}");
+            }
+            for place in [1, length / 2 - 1, length - 3] {
+                let mut list = vec![7; length];
+                list[place..place + 2].fill(0);
+                let answers = all_answers(by, &list);
+                assert!(answers.iter().all(Answer::is_accepted), "{list:?}");
             }
         }
     });
@@ -245,12 +340,12 @@ fn a_label_0_is_24() {
 #[test]
 fn the_length_comes_before_a_label_0() {
     each(|by| {
-        for length in [1, 3, 511, 513, 514, 1024] {
-            for place in [0, length / 2, length - 1] {
+        for length in [2, 3, 6, 1023, 1026, 1028, 2048] {
+            for label in [0, length / 4, length / 2 - 1] {
                 let mut list = vec![7; length];
-                list[place] = 0;
+                list[2 * label..2 * label + 2].fill(0);
                 let answers = all_answers(by, &list);
-                assert_eq!(answers, [refused(23); 4], "{} {length} {place}", by.name);
+                assert_eq!(answers, [refused(23); 4], "{} {length} {label}", by.name);
             }
             let answers = all_answers(by, &vec![0; length]);
             assert_eq!(answers, [refused(23); 4], "{} {length}", by.name);
@@ -261,14 +356,16 @@ fn the_length_comes_before_a_label_0() {
 #[test]
 fn a_graph_at_fault_comes_before_the_list() {
     each(|by| {
-        let graphs: [([&[u8]; 2], u32, u64); 5] = [
+        let graphs: [([&[u8]; 2], u32, u64); 7] = [
             ([&[], NINE], 1, 0),
-            ([SEVEN, &[1, 9]], 1, 2),
-            ([&[1, 7, 2, 0, 0, 0, 0], &[]], 7, 2),
-            ([SEVEN, &[1, 0, 0]], 3, 0),
-            ([SEVEN, &[1, 9, 0, 0]], 9, 3),
+            ([SEVEN, &[4, 2, 3, 9, 0]], 1, 5),
+            ([&[4, 2, 3, 7, 0, 2, 0, 0, 0, 0], &[]], 7, 5),
+            ([SEVEN, &[4, 2, 3, 0, 0, 0]], 3, 2),
+            ([SEVEN, &[4, 2, 3, 9, 0, 0, 0]], 9, 6),
+            ([SEVEN, &[1, 9, 0]], 27, 0),
+            ([&[4, 1], &[]], 27, 0),
         ];
-        let lists: [&[u8]; 4] = [&[7], &[0], &[7, 0], &[7; 514]];
+        let lists: [&[u8]; 5] = [&[7], &[0], &[7, 9], &[7, 0, 0, 0], &[7; 1028]];
         for ([old, new], number, value) in graphs {
             for list in lists {
                 let expected = Answer {
@@ -293,12 +390,13 @@ fn the_list_comes_before_all_else() {
     each(|by| {
         let out_of_shape = [&HELD[..3], &[0; 8], &HELD[11..]].concat();
         let full = [&HELD[..3], &[255; 8], &HELD[11..]].concat();
-        let good: &[u8] = &[7, 9];
-        let lists: [(&[u8], Option<u32>); 5] = [
-            (&[7, 9, 7], Some(23)),
-            (&[7; 514], Some(23)),
-            (&[7, 9, 0, 7], Some(24)),
-            (&[7, 9, 7, 0], Some(24)),
+        let good: &[u8] = &[7, 0, 9, 0];
+        let lists: [(&[u8], Option<u32>); 6] = [
+            (&[7, 0, 9, 0, 7, 0], Some(23)),
+            (&[7, 9], Some(23)),
+            (&[7; 1028], Some(23)),
+            (&[7, 0, 9, 0, 0, 0, 7, 0], Some(24)),
+            (&[7, 0, 9, 0, 7, 0, 0, 0], Some(24)),
             (good, None),
         ];
         for (list, fault) in lists {
@@ -310,11 +408,15 @@ fn the_list_comes_before_all_else() {
             for (mapping, other) in mappings {
                 assert_eq!(check(by, given, mapping), refused(number(other)));
             }
-            let twice = [&[1, 7, 1, 7, 0], NINE, list];
+            let twice = [&[4, 2, 3, 7, 0, 3, 7, 0, 0], NINE, list];
             assert_eq!(check(by, twice, &[0, 0]).number, number(20));
-            let differ = [SEVEN, &[1, 8, 0], list];
+            let differ = [SEVEN, &[4, 2, 3, 8, 0, 0], list];
             assert_eq!(check(by, differ, &[0]).number, number(21));
-            let unlike: [&[u8]; 3] = [&[1, 7, 1, 7, 2, 0, 1, 1, 0], &[1, 9, 1, 9, 0], list];
+            let unlike: [&[u8]; 3] = [
+                &[4, 2, 3, 7, 0, 3, 7, 0, 2, 0, 1, 1, 0],
+                &[4, 2, 3, 9, 0, 3, 9, 0, 0],
+                list,
+            ];
             assert_eq!(check(by, unlike, &[0, 1]).number, number(22));
 
             let start = (by.start)(SEVEN, NINE, list, 0, &mut []);
@@ -352,13 +454,19 @@ fn the_list_comes_before_all_else() {
 fn the_path_is_in_shape_by_the_list() {
     each(|by| {
         let under = |list| [SEVEN, NINE, list];
-        let (answer, checkpoint) = resume(by, under(&[7, 9]), FRESH, 1);
+        let (answer, checkpoint) = resume(by, under(&[7, 0, 9, 0]), FRESH, 1);
         assert_eq!((answer.number, answer.ceiling), (0, 2));
         let one_visit = [16, 0, 17, 1, 0, 0, 0, 0, 0, 0, 0, 18, 0, 19, 0, 0];
         assert_eq!(checkpoint, one_visit);
-        let (_, same) = resume(by, under(&[7, 9]), &checkpoint, 0);
+        let (_, same) = resume(by, under(&[7, 0, 9, 0]), &checkpoint, 0);
         assert_eq!(same, checkpoint);
-        let others: [&[u8]; 4] = [&[], &[9, 7], &[7, 8, 8, 9], &[7, 7]];
+        let others: [&[u8]; 5] = [
+            &[],
+            &[9, 0, 7, 0],
+            &[7, 0, 8, 0, 8, 0, 9, 0],
+            &[7, 0, 7, 0],
+            &[7, 0, 9, 1],
+        ];
         for other in others {
             assert_eq!(resume(by, under(other), &checkpoint, 1).0, refused(14));
             let read = (by.read_out)(SEVEN, NINE, other, &checkpoint, &mut []);
@@ -371,11 +479,11 @@ fn the_path_is_in_shape_by_the_list() {
 fn the_held_mapping_is_in_shape_by_the_list() {
     each(|by| {
         let mut mapping = [0x55; 1];
-        let read = (by.read_out)(SEVEN, NINE, &[7, 9], HELD, &mut mapping);
+        let read = (by.read_out)(SEVEN, NINE, &[7, 0, 9, 0], HELD, &mut mapping);
         assert_eq!((read.number, read.value, read.size), (0, 1, 1));
         assert_eq!(mapping, [0]);
         let mut mapping = [0x55; 1];
-        let read = (by.read_out)(SEVEN, NINE, &[9, 7], HELD, &mut mapping);
+        let read = (by.read_out)(SEVEN, NINE, &[9, 0, 7, 0], HELD, &mut mapping);
         assert_eq!(read, refused(14));
         assert_eq!(mapping, [0x55]);
         assert_eq!(resume(by, [SEVEN, NINE, &[]], HELD, 0).0, refused(14));
@@ -388,13 +496,13 @@ fn the_held_mapping_is_in_shape_by_the_list() {
 fn another_list_goes_on_from_what_is_in_shape() {
     each(|by| {
         let (_, finished) = resume(by, [SEVEN, NINE, &[]], FRESH, 1000);
-        let (answer, same) = resume(by, [SEVEN, NINE, &[7, 9]], &finished, 1000);
+        let (answer, same) = resume(by, [SEVEN, NINE, &[7, 0, 9, 0]], &finished, 1000);
         assert_eq!((answer.number, answer.ceiling), (0, 1));
         assert_eq!(same, finished);
         // other bytes that say the same
-        let (_, held) = resume(by, [SEVEN, NINE, &[7, 9]], FRESH, 2);
+        let (_, held) = resume(by, [SEVEN, NINE, &[7, 0, 9, 0]], FRESH, 2);
         assert_eq!(held, HELD);
-        let (answer, last) = resume(by, [SEVEN, NINE, &[1, 1, 7, 9]], &held, 1);
+        let (answer, last) = resume(by, [SEVEN, NINE, &[1, 1, 1, 1, 7, 0, 9, 0]], &held, 1);
         assert_eq!((answer.number, answer.ceiling), (0, 2));
         assert_eq!(last[11..13], [18, 3]);
     });
@@ -403,23 +511,23 @@ fn another_list_goes_on_from_what_is_in_shape() {
 #[test]
 fn edges_do_not_read_the_list() {
     each(|by| {
-        let old: &[u8] = &[1, 7, 1, 7, 2, 0, 1, 7, 0];
-        let new: &[u8] = &[1, 9, 1, 9, 2, 0, 1, 9, 0];
+        let old: &[u8] = &[4, 2, 3, 7, 0, 3, 7, 0, 2, 0, 1, 7, 0];
+        let new: &[u8] = &[4, 2, 3, 9, 0, 3, 9, 0, 2, 0, 1, 9, 0];
         let edges_differ = Answer {
             number: 22,
             value: 1,
             ..Answer::default()
         };
-        assert_eq!(check(by, [old, new, &[7, 9]], &[0, 1]), edges_differ);
-        let one = found(by, [old, new, &[7, 9]]);
+        assert_eq!(check(by, [old, new, &[7, 0, 9, 0]], &[0, 1]), edges_differ);
+        let one = found(by, [old, new, &[7, 0, 9, 0]]);
         assert_eq!((&one.mapping[..], one.ceiling), (&[0, 255][..], 2));
         // with the old label on the new edge both stay
-        let alike: &[u8] = &[1, 9, 1, 9, 2, 0, 1, 7, 0];
+        let alike: &[u8] = &[4, 2, 3, 9, 0, 3, 9, 0, 2, 0, 1, 7, 0];
         assert_eq!(
-            check(by, [old, alike, &[7, 9]], &[0, 1]),
+            check(by, [old, alike, &[7, 0, 9, 0]], &[0, 1]),
             Answer::accepted(2)
         );
-        assert_eq!(found(by, [old, alike, &[7, 9]]).mapping, [0, 1]);
+        assert_eq!(found(by, [old, alike, &[7, 0, 9, 0]]).mapping, [0, 1]);
     });
 }
 
@@ -427,15 +535,21 @@ fn edges_do_not_read_the_list() {
 #[test]
 fn a_list_that_tells_nothing_gives_what_the_empty_one_gives() {
     each(|by| {
-        let old: &[u8] = &[1, 7, 1, 9, 1, 7, 2, 0, 1, 1, 2, 1, 2, 1, 0];
-        let new: &[u8] = &[1, 9, 1, 7, 2, 0, 1, 1, 0];
+        let old: &[u8] = &[4, 2, 3, 7, 0, 3, 9, 0, 3, 7, 0, 2, 0, 1, 1, 2, 1, 2, 1, 0];
+        let new: &[u8] = &[4, 2, 3, 9, 0, 3, 7, 0, 2, 0, 1, 1, 0];
         let plain = found(by, [old, new, NO_SUBSTITUTES]);
         assert_eq!((&plain.mapping[..], plain.ceiling), (&[1, 0, 255][..], 3));
-        let lists: [&[u8]; 4] = [&[7, 7, 9, 9], &[8, 7, 8, 9], &[7, 8, 9, 8], &[1, 2]];
+        let lists: [&[u8]; 5] = [
+            &[7, 0, 7, 0, 9, 0, 9, 0],
+            &[8, 0, 7, 0, 8, 0, 9, 0],
+            &[7, 0, 8, 0, 9, 0, 8, 0],
+            &[1, 0, 2, 0],
+            &[7, 1, 9, 0, 7, 0, 9, 1],
+        ];
         for list in lists {
             assert_eq!(found(by, [old, new, list]), plain, "{} {list:?}", by.name);
         }
-        let more = found(by, [old, new, &[7, 9]]);
+        let more = found(by, [old, new, &[7, 0, 9, 0]]);
         assert_ne!(more, plain);
     });
 }
@@ -444,18 +558,21 @@ fn a_list_that_tells_nothing_gives_what_the_empty_one_gives() {
 #[test]
 fn all_vertices_may_be_substituted() {
     each(|by| {
-        let graph = |first: u8| -> Vec<u8> {
-            let vertices = (0..64).flat_map(|vertex| [1, first + vertex]);
-            vertices.chain([0]).collect()
+        let graph = |first: u16| -> Vec<u8> {
+            let labels = (0..64).map(|vertex| (first + vertex).to_le_bytes());
+            let vertices = labels.flat_map(|[low, high]| [3, low, high]);
+            [4, 2].into_iter().chain(vertices).chain([0]).collect()
         };
-        let (old, new) = (graph(1), graph(101));
+        // from one byte to two, and up to the greatest label
+        let (old, new) = (graph(201), graph(65_472));
         // each old label has four pairs, the last of which tells; vertex i serves as 63 - i
-        let list: Vec<u8> = [255, 254, 253]
+        let list: Vec<u8> = [1, 256, 9]
             .into_iter()
-            .flat_map(|unused| (0..64).flat_map(move |vertex| [1 + vertex, unused]))
-            .chain((0..64).flat_map(|vertex| [1 + vertex, 164 - vertex]))
+            .flat_map(|unused| (0..64).map(move |vertex| pair(201 + vertex, unused)))
+            .chain((0..64).map(|vertex| pair(201 + vertex, 65_535 - vertex)))
+            .flatten()
             .collect();
-        assert_eq!(list.len(), 512);
+        assert_eq!(list.len(), 1024);
         let given = [&old[..], &new[..], &list[..]];
         let turned: Vec<u8> = (0..64).rev().collect();
         assert_eq!(check(by, given, &turned), Answer::accepted(64));
@@ -464,7 +581,7 @@ fn all_vertices_may_be_substituted() {
         let (answer, _) = resume(by, given, &held, 1);
         assert_eq!((answer.number, answer.ceiling), (0, 65));
         assert_eq!(found(by, given).mapping, turned);
-        let unlisted = [&old[..], &new[..], &list[..510]];
+        let unlisted = [&old[..], &new[..], &list[..1020]];
         assert_eq!(resume(by, unlisted, &held, 1).0, refused(14));
     });
 }

@@ -23,6 +23,10 @@ abbrev pub whenPassed : {A : Type 0} → Answer → A → (Answer → A) → A
 whenPassed answer next otherwise =
     onAnswer next (λ n. otherwise (accepted n)) (λ n. otherwise (refused n)) (λ n at. otherwise (refusedAt n at)) answer
 
+-- what follows where the answer is `accepted`, and else what becomes of the answer
+abbrev pub whenAccepted : {A : Type 0} → Answer → (ℕ → A) → (Answer → A) → A
+whenAccepted answer next otherwise = onAnswer (otherwise passed) next (λ n. otherwise (refused n)) (λ n at. otherwise (refusedAt n at)) answer
+
 -- "the first condition met in this order gives it": the second answer counts where the first one is `passed`
 abbrev pub firstRefusal : Answer → Answer → Answer
 firstRefusal first second = whenPassed first second (λ refusal. refusal)

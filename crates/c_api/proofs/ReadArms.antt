@@ -20,7 +20,8 @@ use Rattle.replies.specs.Resumed.{resumed, resumeFrom}
 use Rattle.replies.specs.ReadOut.{ReadOut, notReadOut, readBytes}
 use Rattle.replies.specs.CliqueReply.{CliqueReply, noMapping, branchReply}
 use Rattle.c_api.specs.Checks.{checkOn, checkingMapping}
-use Rattle.c_api.specs.Calls.{started, startedBy, startOn, starting, resumeOn, resuming}
+use Rattle.c_api.specs.Wrote.{wrote, wroteBy}
+use Rattle.c_api.specs.Calls.{startOn, starting, resumeOn, resuming}
 use Rattle.c_api.specs.ReadOut.{readOutOn, readingOut}
 use Rattle.c_api.specs.Branching.{branchOn, branching}
 
@@ -38,18 +39,18 @@ module _ (old new substitutes : List ℕ) where
 
   module _ (minimum : ℕ) (buffer : List ℕ) where
     pub start-refused : (t : Reply) (a : Answer) → t ≡ replyOf a → refusal a ≡ readProblem old new
-        → started t buffer ≡ starting old new substitutes minimum buffer
+        → wrote t buffer ≡ starting old new substitutes minimum buffer
     unfolding starting
-    start-refused t a p e = ap (λ (x : Reply). started x buffer) p ∙ ap (λ (o : ReadOutcome). startOn o substitutes minimum buffer) e
+    start-refused t a p e = ap (λ (x : Reply). wrote x buffer) p ∙ ap (λ (o : ReadOutcome). startOn o substitutes minimum buffer) e
 
     pub start-read : (P : Problem) → read P ≡ readProblem old new → (t : Reply) (s : SaveAnswer) (after : List ℕ) (c : Checkpoint)
         → t ≡ replyOf (saveAnswer s) → savingOf s after ≡ saving (substituting substitutes P) c buffer → c ≡ freshCheckpoint minimum
-        → started t after ≡ starting old new substitutes minimum buffer
+        → wrote t after ≡ starting old new substitutes minimum buffer
     unfolding starting
     start-read P e t s after c p q f =
-        ap (λ (x : Reply). started x after) p
-        ∙ ap startedBy q
-        ∙ ap (λ (x : Checkpoint). startedBy (saving (substituting substitutes P) x buffer)) f
+        ap (λ (x : Reply). wrote x after) p
+        ∙ ap wroteBy q
+        ∙ ap (λ (x : Checkpoint). wroteBy (saving (substituting substitutes P) x buffer)) f
         ∙ ap (λ (o : ReadOutcome). startOn o substitutes minimum buffer) e
 
   module _ (bytes : List ℕ) (budget : ℕ) (workspace next : List ℕ) where

@@ -6,7 +6,7 @@ use lib.Dec.{leb}
 use lib.ListN.{length, take, drop}
 use lib.Seq.{take-at}
 use borrow.Author.Tests.{leb-false}
-use Rattle.answers.specs.Answer.{Answer, passed, accepted, refused, refusedAt, refusalNumber}
+use Rattle.answers.specs.Answer.{Answer, passed, accepted, refused, refusedAt, refusalNumber, whenAccepted}
 use Rattle.answers.specs.Output.{Writing, overwrite, fill}
 use Rattle.answers.proofs.Choice.{cond-cases}
 use Rattle.answers.proofs.RefusalNumbers.{RefusalNumber}
@@ -23,7 +23,7 @@ use Rattle.checkpoint_loader.proofs.CalledSized.{called-sized, called-in-shape}
 use Rattle.checkpoint_loader.proofs.SaveLoad.{save-load}
 use Rattle.replies.specs.Apart.{cleared}
 use Rattle.replies.specs.Reply.{reply}
-use Rattle.replies.specs.Resumed.{Resumed, resumed, notResumed, whenAccepted, saveOn, searchFrom}
+use Rattle.replies.specs.Resumed.{Resumed, resumed, notResumed, saveOn, searchFrom}
 use Rattle.replies.proofs.CallKept.{Ways, search-kept}
 use Rattle.c_api.specs.ResumedCall.{loadsTo}
 use Rattle.c_api.specs.ByteCalls.{ceilingOf}

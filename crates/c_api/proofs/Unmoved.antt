@@ -6,7 +6,7 @@ use Prim.Native.Nat.{ℕ, _≤_}
 use native.Mathlib.Omega.{arith}
 use lib.Dec.{leb}
 use lib.ListN.{length}
-use Rattle.answers.specs.Answer.{Answer, passed, accepted, refused, refusedAt, refusalNumber, whenPassed}
+use Rattle.answers.specs.Answer.{Answer, passed, accepted, refused, refusedAt, refusalNumber, whenPassed, whenAccepted}
 use Rattle.answers.specs.Output.{Writing}
 use Rattle.answers.proofs.Choice.{either}
 use Rattle.problem.specs.Problem.{Problem, substituting}
@@ -18,7 +18,7 @@ use Rattle.search.specs.Call.{Called, searchCall}
 use Rattle.checkpoint_saver.specs.Saving.{saving}
 use Rattle.checkpoint_loader.specs.Loading.{Loading, loading}
 use Rattle.replies.specs.Reply.{reply, replyOf}
-use Rattle.replies.specs.Resumed.{Resumed, resumed, notResumed, whenAccepted, saveOn, searchFrom, loadOn, resumeFrom}
+use Rattle.replies.specs.Resumed.{Resumed, resumed, notResumed, saveOn, searchFrom, loadOn, resumeFrom}
 use Rattle.replies.specs.ReadOut.{ReadOut, heldIn, readCheckpoint, readLoaded, readBytes}
 use Rattle.replies.specs.CliqueReply.{CliqueReply, noMapping, heldReply, branchReply}
 use Rattle.replies.proofs.CallKept.{Ways, Positive, save-kept}
@@ -28,7 +28,7 @@ use Rattle.c_api.specs.Branching.{branchOn, branching}
 
 module _ (old new substitutes : List ℕ) where
   pub start-unmoved : (minimum : ℕ) (buffer : List ℕ) → 1 ≤ starting old new substitutes minimum buffer .reply .number
-      → starting old new substitutes minimum buffer .checkpoint ≡ buffer
+      → starting old new substitutes minimum buffer .buffer ≡ buffer
   unfolding starting
   start-unmoved minimum buffer = go (readProblem old new)
     where
@@ -39,7 +39,7 @@ module _ (old new substitutes : List ℕ) where
       on-save P (refused n) h z = h .1
       on-save P (refusedAt n at) h z = h .1
 
-      go : (g : ReadOutcome) → 1 ≤ startOn g substitutes minimum buffer .reply .number → startOn g substitutes minimum buffer .checkpoint ≡ buffer
+      go : (g : ReadOutcome) → 1 ≤ startOn g substitutes minimum buffer .reply .number → startOn g substitutes minimum buffer .buffer ≡ buffer
       go (read G) z =
           let P = substituting substitutes G in
           on-save P (saving P (freshCheckpoint minimum) buffer .answer) (save-kept P (freshCheckpoint minimum) buffer) z

@@ -17,7 +17,8 @@ use Rattle.search.specs.Calls.{Call, results, reached}
 use Rattle.search.specs.ThirdProperty.{ThirdProperty}
 use Rattle.checkpoint_loader.specs.Loading.{loading}
 use Rattle.replies.specs.Resumed.{Resumed}
-use Rattle.c_api.specs.Calls.{Started, resuming}
+use Rattle.c_api.specs.Calls.{resuming}
+use Rattle.c_api.specs.Wrote.{Wrote}
 use Rattle.c_api.specs.ResumedCall.{loadsTo}
 
 -- what a caller chooses for each call of `golfcedar_resume`, anything it likes: a `next` of any length too
@@ -54,8 +55,8 @@ abbrev pub seenBy : Resumed → Seen
 seenBy r = record { number = r .reply .number; ceiling = r .ceiling; workspace = r .workspace }
 
 -- the bytes that an accepted start wrote
-abbrev pub startBytes : Started → List ℕ
-startBytes s = take (s .reply .value) (s .checkpoint)
+abbrev pub startBytes : Wrote → List ℕ
+startBytes s = take (s .reply .value) (s .buffer)
 
 -- 02, U1: calls that resume one another take the same list, as they take the same two graphs
 module _ (old new substitutes : List ℕ) where

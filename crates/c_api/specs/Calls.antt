@@ -2,36 +2,24 @@
 use mathlib.Core.List.{List}
 use Prim.Native.Nat.{ℕ}
 use Rattle.answers.specs.Answer.{Answer}
-use Rattle.answers.specs.Output.{Writing}
 use Rattle.problem.specs.Problem.{Problem, substituting}
 use Rattle.problem_reader.specs.ProblemReading.{ReadOutcome, onOutcome, readProblem}
 use Rattle.checkpoint.specs.Checkpoints.{freshCheckpoint}
 use Rattle.checkpoint_saver.specs.Saving.{saving}
-use Rattle.replies.specs.declared.Reply.{Reply}
 use Rattle.replies.specs.Reply.{replyOf}
+use Rattle.c_api.specs.Wrote.{Wrote, wrote, wroteBy}
 use Rattle.replies.specs.Resumed.{Resumed, notResumed, resumeFrom}
 
--- the reply, and the lent buffer afterwards
-pub record Started : Type 0 where
-  pub reply : Reply
-  pub checkpoint : List ℕ
-
-abbrev pub started : Reply → List ℕ → Started
-started r buffer = record { reply = r; checkpoint = buffer }
-
-abbrev pub startedBy : Writing → Started
-startedBy w = started (replyOf (w .answer)) (w .buffer)
-
 -- "A fresh one needs a floor only"
-abbrev pub startOn : ReadOutcome → List ℕ → ℕ → List ℕ → Started
+abbrev pub startOn : ReadOutcome → List ℕ → ℕ → List ℕ → Wrote
 startOn outcome substitutes minimum buffer =
     onOutcome
-    (λ (P : Problem). startedBy (saving (substituting substitutes P) (freshCheckpoint minimum) buffer))
-    (λ (refusal : Answer). started (replyOf refusal) buffer)
+    (λ (P : Problem). wroteBy (saving (substituting substitutes P) (freshCheckpoint minimum) buffer))
+    (λ (refusal : Answer). wrote (replyOf refusal) buffer)
     outcome
 
 -- the graphs' refusals, the list's, then 13 where the bytes do not fit
-unfoldable pub starting : List ℕ → List ℕ → List ℕ → ℕ → List ℕ → Started
+unfoldable pub starting : List ℕ → List ℕ → List ℕ → ℕ → List ℕ → Wrote
 starting old new substitutes minimum buffer = startOn (readProblem old new) substitutes minimum buffer
 
 abbrev pub resumeOn : ReadOutcome → List ℕ → List ℕ → ℕ → List ℕ → List ℕ → Resumed

@@ -4,3 +4,5 @@ pub mod ReadOut
 pub mod ResumedCall
 pub mod ByteCalls
 pub mod Branching
+pub mod Moves
+pub mod Wrote

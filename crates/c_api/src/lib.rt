@@ -4,6 +4,7 @@ use checkpoint::Checkpoint;
 use graph::EDGE_BYTES;
 use graph::Label;
 use graph::MAX_ORDER;
+use graph_reader::Edition;
 use problem_reader::ProblemRead;
 ghost use mathlib.Core.Path.{_≡_};
 ghost use Rattle.step_limit.specs.StepLimits.{foretold};
@@ -13,9 +14,11 @@ ghost use Rattle.replies.specs.Resumed.{resumed};
 ghost use Rattle.replies.specs.ReadOut.{readOut};
 ghost use Rattle.replies.specs.CliqueReply.{cliqueReply};
 ghost use Rattle.c_api.specs.Checks.{checkingGraph, checkingMapping};
-ghost use Rattle.c_api.specs.Calls.{started, starting, resuming};
+ghost use Rattle.c_api.specs.Calls.{starting, resuming};
 ghost use Rattle.c_api.specs.ReadOut.{readingOut};
 ghost use Rattle.c_api.specs.Branching.{branching};
+ghost use Rattle.c_api.specs.Moves.{movingTo};
+ghost use Rattle.c_api.specs.Wrote.{wrote};
 
 // Whether the bytes are a graph.
 #[no_mangle]
@@ -25,6 +28,26 @@ pub extern "C" fn golfcedar_check_graph(graph: &[u8], value: &mut u64) -> u32
     let mut labels = [0 as Label; MAX_ORDER];
     let mut edges = [0u8; EDGE_BYTES];
     let reply = replies::of_read(graph_reader::read_graph(graph, &mut labels, &mut edges));
+    *value = reply.value;
+    reply.number
+}
+
+// Moves graph bytes of edition 1 to edition 2.
+#[no_mangle]
+pub extern "C" fn golfcedar_to_edition_2(graph: &[u8], out: &mut [u8], value: &mut u64) -> u32
+    ensures { λ r. ⌜ wrote (reply r (now (value .exit))) (now (out .exit)) ≡ movingTo Edition.One Edition.Two (now (graph .entry)) (now (out .entry)) ⌝ }
+{
+    let reply = replies::of_move(graph_writer::to_edition_2(graph, out));
+    *value = reply.value;
+    reply.number
+}
+
+// Moves graph bytes of edition 2 back to edition 1, where every label fits a byte.
+#[no_mangle]
+pub extern "C" fn golfcedar_to_edition_1(graph: &[u8], out: &mut [u8], value: &mut u64) -> u32
+    ensures { λ r. ⌜ wrote (reply r (now (value .exit))) (now (out .exit)) ≡ movingTo Edition.Two Edition.One (now (graph .entry)) (now (out .entry)) ⌝ }
+{
+    let reply = replies::of_move(graph_writer::to_edition_1(graph, out));
     *value = reply.value;
     reply.number
 }
@@ -85,7 +108,7 @@ pub extern "C" fn golfcedar_start(
     checkpoint: &mut [u8],
     value: &mut u64,
 ) -> u32
-    ensures { λ r. ⌜ started (reply r (now (value .exit))) (now (checkpoint .exit))
+    ensures { λ r. ⌜ wrote (reply r (now (value .exit))) (now (checkpoint .exit))
         ≡ starting (now («old_graph» .entry)) (now («new_graph» .entry)) (now (substitutes .entry)) minimum (now (checkpoint .entry)) ⌝ }
 {
     let mut old_labels = [0 as Label; MAX_ORDER];

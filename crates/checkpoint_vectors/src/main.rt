@@ -1,10 +1,11 @@
 // Saves and loads checkpoints and writes what each call says. The bytes and the expected output were worked out by hand from document 01,
-// "Bookmark and calls" and "Refusals by place of checking", and those with a list of substitutes from document 02, U1.
+// "Bookmark and calls" and "Refusals by place of checking", and those with a list of substitutes from document 02, U1 and U6.
 
 mod lines;
 
 use checkpoint::Checkpoint;
 use checkpoint_loader::LoadAnswer;
+use graph::Label;
 use graph_reader::ReadAnswer;
 use problem::Edges;
 use problem::Labels;
@@ -14,7 +15,7 @@ ghost use Prim.Native.Nat.{_≤_};
 ghost use lib.ListN.{length};
 
 // The graph's order. Bytes that hold no graph are told of in the output.
-fn read(bytes: &[u8], labels: &mut [u8], edges: &mut [u8]) -> usize {
+fn read(bytes: &[u8], labels: &mut [Label], edges: &mut [u8]) -> usize {
     match graph_reader::read_graph(bytes, labels, edges) {
         ReadAnswer::Order(order) => order,
         _ => {
@@ -55,9 +56,9 @@ fn load<'a>(
 }
 
 fn case(name: &[u8], old: &[u8], new: &[u8], substitutes: &[u8], bytes: &[u8]) {
-    let mut old_labels = [0u8; 64];
+    let mut old_labels = [0u16; 64];
     let mut old_edges = [0u8; 4096];
-    let mut new_labels = [0u8; 64];
+    let mut new_labels = [0u16; 64];
     let mut new_edges = [0u8; 4096];
     let old_order = read(old, &mut old_labels, &mut old_edges);
     let new_order = read(new, &mut new_labels, &mut new_edges);
@@ -75,8 +76,8 @@ fn case(name: &[u8], old: &[u8], new: &[u8], substitutes: &[u8], bytes: &[u8]) {
 fn on_p(name: &[u8], bytes: &[u8]) {
     case(
         name,
-        b"\x01\x07\x01\x09\x01\x07\x02\x00\x01\x01\x02\x01\x02\x01\x00",
-        b"\x01\x09\x01\x07\x02\x00\x01\x01\x00",
+        b"\x04\x02\x03\x07\x00\x03\x09\x00\x03\x07\x00\x02\x00\x01\x01\x02\x01\x02\x01\x00",
+        b"\x04\x02\x03\x09\x00\x03\x07\x00\x02\x00\x01\x01\x00",
         b"",
         bytes,
     );
@@ -254,10 +255,25 @@ fn put_identity(mark: u8, bytes: &mut [u8; 270], start: usize)
     }
 }
 
-// 64 vertices of label 1 on each side, no edges: each vertex is mapped to its own number, on the path and in what is held.
+// 64 vertices of label 1, and no edges.
+fn full_graph() -> [u8; 195]
+    ensures { λ r. ⌜ 195 ≡ length r ⌝ }
+{
+    let mut bytes = [0u8; 195];
+    bytes[0] = 4;
+    bytes[1] = 2;
+    let mut v = 0;
+    while v < 64 {
+        bytes[3 * v + 2] = 3;
+        bytes[3 * v + 3] = 1;
+        v += 1;
+    }
+    bytes
+}
+
+// Such a graph on each side: each vertex is mapped to its own number, on the path and in what is held.
 fn full() {
-    let mut graph = [1u8; 129];
-    graph[128] = 0;
+    let graph = full_graph();
     let mut bytes = [0u8; 270];
     bytes[0] = 16;
     bytes[2] = 17;
@@ -270,8 +286,8 @@ fn full() {
 }
 
 // Loads no bytes at all for two graphs without edges, which both have this label at 63 and no other.
-fn load_nothing(name: &[u8], orders: Orders, label: u8, substitutes: &[u8]) {
-    let mut labels = [0u8; 64];
+fn load_nothing(name: &[u8], orders: Orders, label: Label, substitutes: &[u8]) {
+    let mut labels = [0u16; 64];
     labels[63] = label;
     let edges = [0u8; 4096];
     load(
@@ -292,7 +308,7 @@ fn unsound() {
 
 // Saves a checkpoint that was never loaded.
 fn save(name: &[u8], depth: usize, edge: u8, substitutes: &[u8], out: &mut [u8]) {
-    let mut labels = [0u8; 64];
+    let mut labels = [0u16; 64];
     let mut edges = [0u8; 4096];
     labels[0] = 7;
     labels[1] = 7;
@@ -326,7 +342,13 @@ fn save(name: &[u8], depth: usize, edge: u8, substitutes: &[u8], out: &mut [u8])
 
 // An old vertex of label 7, a new vertex of label 9, and a list of substitutes.
 fn on_seven_nine(name: &[u8], substitutes: &[u8], bytes: &[u8]) {
-    case(name, b"\x01\x07\x00", b"\x01\x09\x00", substitutes, bytes);
+    case(
+        name,
+        b"\x04\x02\x03\x07\x00\x00",
+        b"\x04\x02\x03\x09\x00\x00",
+        substitutes,
+        bytes,
+    );
 }
 
 // After one visit the old vertex lies on the new one: in shape only where the list has the pair 7, 9.
@@ -348,37 +370,88 @@ fn held(name: &[u8], substitutes: &[u8]) {
 }
 
 fn pairs() {
-    one_visit(b"one visit, pair 7 9", b"\x07\x09");
+    one_visit(b"one visit, pair 7 9", b"\x07\x00\x09\x00");
     one_visit(b"one visit, no list", b"");
-    one_visit(b"one visit, pair 9 7", b"\x09\x07");
-    one_visit(b"one visit, 7 9 the second pair", b"\x01\x02\x07\x09");
-    one_visit(b"one visit, 7 9 across two pairs", b"\x01\x07\x09\x02");
-    one_visit(b"one visit, chain 7 8 and 8 9", b"\x07\x08\x08\x09");
-    held(b"held, pair 7 9", b"\x07\x09");
+    one_visit(b"one visit, pair 9 7", b"\x09\x00\x07\x00");
+    one_visit(
+        b"one visit, 7 9 the second pair",
+        b"\x01\x00\x02\x00\x07\x00\x09\x00",
+    );
+    one_visit(
+        b"one visit, 7 9 a byte off",
+        b"\x01\x07\x00\x09\x00\x01\x01\x01",
+    );
+    one_visit(b"one visit, low bytes 7 9", b"\x07\x01\x09\x01");
+    one_visit(
+        b"one visit, 7 9 across two pairs",
+        b"\x01\x00\x07\x00\x09\x00\x02\x00",
+    );
+    one_visit(
+        b"one visit, chain 7 8 and 8 9",
+        b"\x07\x00\x08\x00\x08\x00\x09\x00",
+    );
+    held(b"held, pair 7 9", b"\x07\x00\x09\x00");
     held(b"held, no list", b"");
 }
 
-// 512 bytes whose last pair is 7, 9, and two bytes more.
+// After one visit an old vertex of label 263 lies on a new one of label 7: in shape only where the list has that pair.
+fn low_bytes(name: &[u8], substitutes: &[u8]) {
+    case(
+        name,
+        b"\x04\x02\x03\x07\x01\x00",
+        b"\x04\x02\x03\x07\x00\x00",
+        substitutes,
+        b"\x10\x00\x11\x01\x00\x00\x00\x00\x00\x00\x00\x12\x00\x13\x00\x00",
+    );
+}
+
+fn wide_labels() {
+    low_bytes(b"263 on 7, no list", b"");
+    low_bytes(b"263 on 7, pair 263 7", b"\x07\x01\x07\x00");
+    low_bytes(b"263 on 7, pair 7 263", b"\x07\x00\x07\x01");
+}
+
+// 1,024 bytes whose last pair is 7, 9, and a pair more.
 fn longest() {
-    let mut list = [7u8; 514];
-    list[511] = 9;
-    one_visit(b"one visit, list of 512 bytes", &list[..512]);
-    one_visit(b"one visit, list of 514 bytes", &list);
+    let mut list = [1u8; 1028];
+    list[1020] = 7;
+    list[1021] = 0;
+    list[1022] = 9;
+    list[1023] = 0;
+    one_visit(b"one visit, list of 1024 bytes", &list[..1024]);
+    one_visit(b"one visit, list of 1028 bytes", &list);
 }
 
 // A list that is not sound is refused after graphs that are not, and before bytes that are malformed.
 fn unsound_lists() {
-    on_seven_nine(b"odd list, and malformed", b"\x07", b"");
-    on_seven_nine(b"odd list with a label 0", b"\x07\x00\x07", b"");
-    on_seven_nine(b"new label 0 in the list, and malformed", b"\x07\x00", b"");
-    on_seven_nine(b"old label 0 in the list", b"\x07\x09\x00\x09", b"");
-    load_nothing(b"old labels unsound, and odd list", [0, 0], 9, b"\x07");
+    on_seven_nine(b"half a pair, and malformed", b"\x07\x09", b"");
+    on_seven_nine(
+        b"a pair and a half with a label 0",
+        b"\x07\x00\x00\x00\x07\x00",
+        b"",
+    );
+    on_seven_nine(
+        b"new label 0 in the list, and malformed",
+        b"\x07\x00\x00\x00",
+        b"",
+    );
+    on_seven_nine(
+        b"old label 0 in the list",
+        b"\x07\x00\x09\x00\x00\x00\x09\x00",
+        b"",
+    );
+    load_nothing(
+        b"old labels unsound, and half a pair",
+        [0, 0],
+        9,
+        b"\x07\x09",
+    );
 }
 
 // Saves the checkpoint after one visit, and compares the buffer with the bytes that are due.
 fn save_one_visit(name: &[u8], substitutes: &[u8], due: &[u8]) {
-    let mut old_labels = [0u8; 64];
-    let mut new_labels = [0u8; 64];
+    let mut old_labels = [0u16; 64];
+    let mut new_labels = [0u16; 64];
     let edges = [0u8; 4096];
     old_labels[0] = 7;
     new_labels[0] = 9;
@@ -408,23 +481,23 @@ fn save_one_visit(name: &[u8], substitutes: &[u8], due: &[u8]) {
 fn saved_with_lists() {
     save_one_visit(
         b"one visit saved, pair 7 9",
-        b"\x07\x09",
+        b"\x07\x00\x09\x00",
         b"\x10\x00\x11\x01\x00\x00\x00\x00\x00\x00\x00\x12\x00\x13\x00\x00",
     );
     save_one_visit(b"one visit saved, no list", b"", b"");
     let mut shorter = [170u8; 17];
     save(
-        b"odd list, out of shape, and one byte short",
+        b"half a pair, out of shape, and one byte short",
         2,
         0,
-        b"\x07",
+        b"\x07\x09",
         &mut shorter,
     );
     save(
         b"label 0 in the list, and out of shape",
         2,
         0,
-        b"\x07\x00",
+        b"\x07\x00\x00\x00",
         &mut shorter,
     );
 }
@@ -435,8 +508,8 @@ fn main() {
     shapeless();
     case(
         b"both empty, finished",
-        b"\x00",
-        b"\x00",
+        b"\x04\x02\x00",
+        b"\x04\x02\x00",
         b"",
         b"\x10\x00\x11\x01\x00\x00\x00\x00\x00\x00\x00\x12\x03\x00",
     );
@@ -450,6 +523,7 @@ fn main() {
     save(b"out of shape, and one byte short", 2, 0, b"", &mut shorter);
     save(b"old edges unsound", 3, 1, b"", &mut room);
     pairs();
+    wide_labels();
     longest();
     unsound_lists();
     saved_with_lists();

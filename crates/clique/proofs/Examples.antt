@@ -3,7 +3,7 @@ use mathlib.Core.Path.{_≡_, refl}
 use mathlib.Core.List.{[], _∷_}
 use mathlib.Core.Option.{none, some}
 use Rattle.bounded.specs.Below.{allBelow, someBelow, runBelow}
-use Rattle.graph_reader.specs.Reading.{reading, readFrom, judge}
+use Rattle.graph_reader.specs.Reading.{reading, readingEdition, readFile, opens, readAt, readFrom, judge}
 use Rattle.substitutes.specs.Substitutes.{listed, agree}
 use Rattle.problem.specs.Problem.{allowed, consistent}
 use Rattle.problem_reader.proofs.MarkedGraphs.{between, pair, empty, one, two, linked, unlinked, loose, listing}
@@ -28,9 +28,9 @@ pub marked-examples :
     × (branch (between linked unlinked) 0 ≡ some (0 ∷ 255 ∷ []))
     -- 7 7 7 with a link of the first two against itself, floor 0: 0 1 2
     × (branch (between loose loose) 0 ≡ some (0 ∷ 1 ∷ 2 ∷ []))
-    -- 7 against 9, list 7 9: 0
-    × (branch (listing (7 ∷ 9 ∷ [])) 0 ≡ some (0 ∷ []))
-    -- 7 against 9, list 9 7: left out, as a pair is read old then new
-    × (branch (listing (9 ∷ 7 ∷ [])) 0 ≡ some (255 ∷ []))
-unfolding reading readFrom judge allBelow someBelow runBelow listed agree allowed consistent mappedFrom candidate candidates choices keepLarger branchRow
+    -- 7 against 9, list 7 0 9 0: 0
+    × (branch (listing (7 ∷ 0 ∷ 9 ∷ 0 ∷ [])) 0 ≡ some (0 ∷ []))
+    -- 7 against 9, list 9 0 7 0: left out, as a pair is read old then new
+    × (branch (listing (9 ∷ 0 ∷ 7 ∷ 0 ∷ [])) 0 ≡ some (255 ∷ []))
+unfolding reading readingEdition readFile opens readAt readFrom judge allBelow someBelow runBelow listed agree allowed consistent mappedFrom candidate candidates choices keepLarger branchRow
 marked-examples = (refl, refl, refl, refl, refl, refl, refl, refl, refl, refl)

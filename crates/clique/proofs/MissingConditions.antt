@@ -13,7 +13,7 @@ use lib.ListN.{length}
 use borrow.Author.Tests.{eq-eqb}
 use Rattle.bounded.specs.Below.{allBelow, someBelow, runBelow}
 use Rattle.bounded.proofs.AllBelow.{allBelow-true}
-use Rattle.graph_reader.specs.Reading.{reading, readFrom, judge}
+use Rattle.graph_reader.specs.Reading.{reading, readingEdition, readFile, opens, readAt, readFrom, judge}
 use Rattle.substitutes.specs.Substitutes.{listed, agree}
 use Rattle.substitutes.specs.Soundness.{substitutesAnswer}
 use Rattle.problem.specs.Problem.{Problem, SoundProblem, compareEdges, allowed, consistent}
@@ -85,7 +85,7 @@ exceeds P sound {vertex} {edges} c passes h e less = record {
 -- 001, one part of kind 7 against two of kind 7, and two against one: without "no part shared by two pairs" the one is paired with both.
 pub modular-shares : Exceeds (between one two) (modularVertex (between one two)) (modularEdge (between one two)) (pair 0 0 ∷ pair 0 1 ∷ [])
     × Exceeds (between two one) (modularVertex (between two one)) (modularEdge (between two one)) (pair 0 0 ∷ pair 1 0 ∷ [])
-unfolding reading readFrom judge bytes allBelow someBelow runBelow listed agree allowed consistent mappedFrom candidate candidates choices keepLarger branchRow
+unfolding reading readingEdition readFile opens readAt readFrom judge bytes allBelow someBelow runBelow listed agree allowed consistent mappedFrom candidate candidates choices keepLarger branchRow
 modular-shares = (
   exceeds (between one two) one-sound (pair 0 0 ∷ pair 0 1 ∷ []) refl (0 ∷ []) refl (lit< tt),
   exceeds (between two one) (between-sound two one refl refl 2 1 refl refl) (pair 0 0 ∷ pair 1 0 ∷ []) refl (0 ∷ 255 ∷ []) refl (lit< tt),
@@ -93,13 +93,13 @@ modular-shares = (
 
 -- 004, one part of kind 7 against one of kind 9: vertices are paired whatever their labels.
 pub unlabelled-vertices : Exceeds (listing []) (inProduct (listing [])) (unlabelledEdge (listing [])) (pair 0 0 ∷ [])
-unfolding reading readFrom judge allBelow someBelow runBelow listed agree substitutesAnswer allowed consistent mappedFrom candidate candidates choices keepLarger branchRow
+unfolding reading readingEdition readFile opens readAt readFrom judge allBelow someBelow runBelow listed agree substitutesAnswer allowed consistent mappedFrom candidate candidates choices keepLarger branchRow
 unlabelled-vertices = exceeds (listing []) (listing-sound [] refl) (pair 0 0 ∷ []) refl (255 ∷ []) refl (lit< tt)
 
 -- 004, two parts of kind 7 linked by 1 against two linked by 2: pairs are joined whatever the edges' labels, also where the vertices' are compared.
 pub unlabelled-edges : let P = between (sevens 1) (sevens 2) in
     Exceeds P (inProduct P) (unlabelledEdge P) (pair 0 0 ∷ pair 1 1 ∷ []) × Exceeds P (modularVertex P) (unlabelledEdge P) (pair 0 0 ∷ pair 1 1 ∷ [])
-unfolding reading readFrom judge allBelow someBelow runBelow listed agree allowed consistent mappedFrom candidate candidates choices keepLarger branchRow
+unfolding reading readingEdition readFile opens readAt readFrom judge allBelow someBelow runBelow listed agree allowed consistent mappedFrom candidate candidates choices keepLarger branchRow
 unlabelled-edges = (
   exceeds (between (sevens 1) (sevens 2)) sevens-sound (pair 0 0 ∷ pair 1 1 ∷ []) refl (0 ∷ 255 ∷ []) refl (lit< tt),
   exceeds (between (sevens 1) (sevens 2)) sevens-sound (pair 0 0 ∷ pair 1 1 ∷ []) refl (0 ∷ 255 ∷ []) refl (lit< tt),
@@ -109,7 +109,7 @@ unlabelled-edges = (
 pub own-edges-differ : let P = between (held 1) one in
     Exceeds P (modularVertex P) (λ p q. modularEdge P p q && apart p q) (pair 0 0 ∷ [])
     × Exceeds P (modularVertex P) (λ p q. unlabelledEdge P p q && compareEdges P (p .old) (q .old) (p .new) (q .new)) (pair 0 0 ∷ [])
-unfolding reading readFrom judge allBelow someBelow runBelow listed agree allowed consistent mappedFrom candidate candidates choices keepLarger branchRow
+unfolding reading readingEdition readFile opens readAt readFrom judge allBelow someBelow runBelow listed agree allowed consistent mappedFrom candidate candidates choices keepLarger branchRow
 own-edges-differ = (
   exceeds (between (held 1) one) held-sound (pair 0 0 ∷ []) refl (255 ∷ []) refl (lit< tt),
   exceeds (between (held 1) one) held-sound (pair 0 0 ∷ []) refl (255 ∷ []) refl (lit< tt),

@@ -1,4 +1,4 @@
-pub mod Bytes
+pub mod Labels
 pub mod EdgeRows
 pub mod Places
 pub mod RefusalNumbers

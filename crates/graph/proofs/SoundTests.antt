@@ -9,29 +9,29 @@ use lib.ListN.{length, getD}
 use borrow.Author.Tests.{ltb-true, ltb-false, leb-true, eqb-true, eqb-false, lt-ltb, le-ltb, le-leb, lt-leb, eq-eqb}
 use Rattle.bounded.proofs.AllBelow.{allBelow-true, true-allBelow}
 use Rattle.answers.specs.Answer.{passed, refused}
-use Rattle.graph.specs.Graph.{Graph, Sound, place}
+use Rattle.graph.specs.Graph.{Graph, Sound, place, maxLabel}
 use Rattle.graph.specs.Soundness.{tablesFit, labelSound, labelsSound, edgeSound, rowSound, edgesSound, soundness}
 
 -- ---- one label and one edge
 
 -- what the test of one label asks
 abbrev LabelFacts : ℕ → List ℕ → ℕ → Type 0
-LabelFacts n labels v = (v < n → (1 ≤ getD labels v 0) × (getD labels v 0 ≤ 255)) × (n ≤ v → getD labels v 0 ≡ 0)
+LabelFacts n labels v = (v < n → (1 ≤ getD labels v 0) × (getD labels v 0 ≤ maxLabel)) × (n ≤ v → getD labels v 0 ≡ 0)
 
 label-passes : (n : ℕ) (labels : List ℕ) (v : ℕ) → LabelFacts n labels v → labelSound n labels v ≡ true
 label-passes n labels v f = go (ltb v n) refl
   where
     go : (t : Bool) → ltb v n ≡ t → labelSound n labels v ≡ true
-    go true e = let l = f .0 (ltb-true v n e) in simp (e, le-leb 1 (getD labels v 0) (l .0), le-leb (getD labels v 0) 255 (l .1))
+    go true e = let l = f .0 (ltb-true v n e) in simp (e, le-leb 1 (getD labels v 0) (l .0), le-leb (getD labels v 0) maxLabel (l .1))
     go false e = simp (e, eq-eqb (getD labels v 0) 0 (f .1 (ltb-false v n e)))
 
 label-facts : (n : ℕ) (labels : List ℕ) (v : ℕ) → labelSound n labels v ≡ true → LabelFacts n labels v
 label-facts n labels v e = (inside, outside)
   where
-    inside : v < n → (1 ≤ getD labels v 0) × (getD labels v 0 ≤ 255)
+    inside : v < n → (1 ≤ getD labels v 0) × (getD labels v 0 ≤ maxLabel)
     inside h =
         let l = simp (lt-ltb v n h, and-eq-true-iff) at e in
-        (leb-true 1 (getD labels v 0) (l .0), leb-true (getD labels v 0) 255 (l .1))
+        (leb-true 1 (getD labels v 0) (l .0), leb-true (getD labels v 0) maxLabel (l .1))
 
     outside : n ≤ v → getD labels v 0 ≡ 0
     outside h = eqb-true (getD labels v 0) 0 (simp (le-ltb v n h) at e)

@@ -6,16 +6,16 @@ use lib.Dec.{leb, ltb, eqb}
 use lib.ListN.{length, getD}
 use Rattle.bounded.specs.Below.{allBelow}
 use Rattle.answers.specs.Answer.{Answer, passed, refused}
-use Rattle.graph.specs.Graph.{Graph, place}
+use Rattle.graph.specs.Graph.{Graph, place, maxLabel}
 
 -- 10: "lengths not 64 and 4,096, or n above 64"
 abbrev pub tablesFit : ℕ → List ℕ → List ℕ → Bool
 tablesFit order labels edges = eqb (length labels) 64 && eqb (length edges) 4096 && leb order 64
 
--- 11: "the first n kinds are 1 to 255 and the others 0"
+-- 11: "the first n kinds are 1 to" 65,535 "and the others 0" (02, U6)
 abbrev pub labelSound : ℕ → List ℕ → ℕ → Bool
 labelSound order labels v =
-    cond (ltb v order) (leb 1 (getD labels v 0) && leb (getD labels v 0) 255) (eqb (getD labels v 0) 0)
+    cond (ltb v order) (leb 1 (getD labels v 0) && leb (getD labels v 0) maxLabel) (eqb (getD labels v 0) 0)
 
 unfoldable pub labelsSound : ℕ → List ℕ → Bool
 labelsSound order labels = allBelow 64 (labelSound order labels)

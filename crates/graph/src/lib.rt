@@ -1,5 +1,5 @@
 // Graphs in two lent tables, and the test of soundness.
-// A graph is a number of vertices, 64 vertex labels and 4,096 edge labels, the label of the edge of a and b at 64 * a + b.
+// A graph is a number of vertices, 64 vertex labels of two bytes and 4,096 edge labels of one, the label of the edge of a and b at 64 * a + b.
 
 mod joined;
 mod null_edges;
@@ -12,7 +12,7 @@ ghost use Rattle.graph.specs.Soundness.{tablesFit, soundness};
 ghost use Rattle.graph.specs.Answers.{soundnessAnswer};
 
 // A vertex label: one alias says its width.
-pub type Label = u8;
+pub type Label = u16;
 
 // The greatest order, which is the length of the label table, and the length of the edge table.
 pub const MAX_ORDER: usize = 64;
@@ -32,7 +32,7 @@ pub enum Soundness {
     Flawed(Flaw),
 }
 
-// Whether the tables have 64 and 4,096 bytes, and the order is at most 64.
+// Whether the tables have 64 labels and 4,096 bytes, and the order is at most 64.
 pub fn tables_fit(order: usize, labels: &[Label], edges: &[u8]) -> bool
     ensures { λ r. ⌜ r ≡ tablesFit order (now (labels .entry)) (now (edges .entry)) ⌝ }
 {

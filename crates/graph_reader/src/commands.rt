@@ -1,6 +1,8 @@
 // One command of graph bytes: decoded from the front of the rest of the bytes, judged against the graph so far, and added to its tables.
 
+use super::Edition;
 use super::Fault;
+use super::editions;
 use graph::Label;
 use graph::MAX_ORDER;
 ghost use mathlib.Core.Path.{_≡_};
@@ -27,8 +29,8 @@ pub enum Step {
 }
 
 // The command at the front of `rest`.
-pub fn decode(rest: &[u8]) -> Command
-    ensures { λ r. ⌜ r ≡ decoded (now (rest .entry)) ⌝ }
+pub fn decode(edition: Edition, rest: &[u8]) -> Command
+    ensures { λ r. ⌜ r ≡ decoded edition (now (rest .entry)) ⌝ }
 {
     if rest.len() == 0 {
         return Command::Truncated;
@@ -37,11 +39,11 @@ pub fn decode(rest: &[u8]) -> Command
     if first == 0 {
         return Command::End;
     }
-    if first == 1 {
-        if rest.len() < 2 {
+    if first == editions::vertex_code(edition) {
+        if rest.len() < editions::vertex_width(edition) {
             return Command::Truncated;
         }
-        return Command::Vertex(rest[1]);
+        return Command::Vertex(editions::vertex_label(edition, rest));
     }
     if first == 2 {
         if rest.len() < 4 {
@@ -53,11 +55,11 @@ pub fn decode(rest: &[u8]) -> Command
 }
 
 // How many bytes a whole command takes.
-pub fn width(command: Command) -> usize
-    ensures { λ r. ⌜ r ≡ widthOf command ⌝ }
+pub fn width(edition: Edition, command: Command) -> usize
+    ensures { λ r. ⌜ r ≡ widthOf edition command ⌝ }
 {
     match command {
-        Command::Vertex(_) => 2,
+        Command::Vertex(_) => editions::vertex_width(edition),
         Command::Edge(_, _, _) => 4,
         Command::End => 1,
         Command::Truncated => 0,
@@ -66,15 +68,18 @@ pub fn width(command: Command) -> usize
 }
 
 // The next vertex, with its label.
-pub fn add_vertex(label: Label, order: usize, labels: &mut [Label]) -> Step
+pub fn add_vertex(to: Edition, label: Label, order: usize, labels: &mut [Label]) -> Step
     requires { ⌜ (length (now labels) ≡ 64) × (order ≤ 64) ⌝ }
-    ensures { λ r. ⌜ ((edges : List ℕ) → Applied (graph order (now (labels .entry)) edges) (Command.Vertex label) r (now (labels .exit)) edges) ⌝ }
+    ensures { λ r. ⌜ ((edges : List ℕ) → Applied to (graph order (now (labels .entry)) edges) (Command.Vertex label) r (now (labels .exit)) edges) ⌝ }
 {
     if label == 0 {
         return Step::Faulty(Fault::ZeroLabel);
     }
     if MAX_ORDER <= order {
         return Step::Faulty(Fault::TooManyVertices);
+    }
+    if editions::greatest_label(to) < label {
+        return Step::Faulty(Fault::WideLabel);
     }
     labels[order] = label;
     Step::Grown(order + 1)
@@ -83,34 +88,40 @@ pub fn add_vertex(label: Label, order: usize, labels: &mut [Label]) -> Step
 // An edge between two vertices, which may be one and the same, entered both ways.
 pub fn add_edge(a: u8, b: u8, edge_label: u8, order: usize, edges: &mut [u8]) -> Step
     requires { ⌜ (length (now edges) ≡ 4096) × (order ≤ 64) ⌝ }
-    ensures { λ r. ⌜ ((labels : List ℕ) → Applied (graph order labels (now (edges .entry))) (Command.Edge a b «edge_label») r labels (now (edges .exit))) ⌝ }
+    ensures { λ r. ⌜ ((to : Edition) → (labels : List ℕ) → Applied to (graph order labels (now (edges .entry))) (Command.Edge a b «edge_label») r labels (now (edges .exit))) ⌝ }
 {
-    let from = a as usize;
-    let to = b as usize;
-    if order <= from {
+    let first = a as usize;
+    let second = b as usize;
+    if order <= first {
         return Step::Faulty(Fault::MissingVertex);
     }
-    if order <= to {
+    if order <= second {
         return Step::Faulty(Fault::MissingVertex);
     }
     if edge_label == 0 {
         return Step::Faulty(Fault::NullEdge);
     }
-    if edges[MAX_ORDER * from + to] != 0 {
+    if edges[MAX_ORDER * first + second] != 0 {
         return Step::Faulty(Fault::RepeatedEdge);
     }
-    edges[MAX_ORDER * from + to] = edge_label;
-    edges[MAX_ORDER * to + from] = edge_label;
+    edges[MAX_ORDER * first + second] = edge_label;
+    edges[MAX_ORDER * second + first] = edge_label;
     Step::Grown(order)
 }
 
 // One command, judged against the graph so far and added to its tables if it stands.
-pub fn apply(command: Command, order: usize, labels: &mut [Label], edges: &mut [u8]) -> Step
+pub fn apply(
+    to: Edition,
+    command: Command,
+    order: usize,
+    labels: &mut [Label],
+    edges: &mut [u8],
+) -> Step
     requires { ⌜ (length (now labels) ≡ 64) × (length (now edges) ≡ 4096) × (order ≤ 64) ⌝ }
-    ensures { λ r. ⌜ Applied (graph order (now (labels .entry)) (now (edges .entry))) command r (now (labels .exit)) (now (edges .exit)) ⌝ }
+    ensures { λ r. ⌜ Applied to (graph order (now (labels .entry)) (now (edges .entry))) command r (now (labels .exit)) (now (edges .exit)) ⌝ }
 {
     match command {
-        Command::Vertex(label) => add_vertex(label, order, labels),
+        Command::Vertex(label) => add_vertex(to, label, order, labels),
         Command::Edge(a, b, label) => add_edge(a, b, label, order, edges),
         Command::End => Step::Ended,
         Command::Truncated => Step::Faulty(Fault::Truncated),

@@ -1,7 +1,8 @@
-// Graph bytes read into two lent tables, command by command.
+// Graph bytes of either edition read into two lent tables, command by command.
 
 mod commands;
 mod cursor;
+mod editions;
 mod reader;
 mod tables;
 
@@ -11,9 +12,15 @@ use graph::MAX_ORDER;
 ghost use mathlib.Core.Path.{_≡_};
 ghost use Rattle.answers.specs.Answer.{refusalNumber};
 ghost use Rattle.graph_reader.specs.Answers.{faultNumber, readAnswer};
-ghost use Rattle.graph_reader.specs.Reading.{readingOf, reading};
+ghost use Rattle.graph_reader.specs.Reading.{readingOf, readingEdition, reading};
 
-// Why a command of graph bytes, or a byte after the end, cannot stand where it does.
+// How graph bytes are written: the first edition's labels take one byte, the second's two.
+pub enum Edition {
+    One,
+    Two,
+}
+
+// Why graph bytes do not begin as they should, or a command or a byte after the end cannot stand where it does.
 pub enum Fault {
     Truncated,
     UnknownCommand,
@@ -23,9 +30,11 @@ pub enum Fault {
     NullEdge,
     RepeatedEdge,
     TrailingBytes,
+    OtherEdition,
+    WideLabel,
 }
 
-// The answer of `read_graph`: the graph's order, or a refusal, with the place of the fault.
+// The answer of a reading: the graph's order, or a refusal, with the place of the fault.
 pub enum ReadAnswer {
     Order(usize),
     Tables,
@@ -45,6 +54,8 @@ fn fault_number(fault: Fault) -> u8
         Fault::NullEdge => 7,
         Fault::RepeatedEdge => 8,
         Fault::TrailingBytes => 9,
+        Fault::OtherEdition => 27,
+        Fault::WideLabel => 28,
     }
 }
 
@@ -59,9 +70,15 @@ pub fn read_number(answer: ReadAnswer) -> u8
     }
 }
 
-// Reads graph bytes into the two tables.
-pub fn read_graph(bytes: &[u8], labels: &mut [Label], edges: &mut [u8]) -> ReadAnswer
-    ensures { λ r. ⌜ readingOf r (now (labels .exit)) (now (edges .exit)) ≡ reading (now (labels .entry)) (now (edges .entry)) (now (bytes .entry)) ⌝ }
+// Reads graph bytes of the edition `from` into the two tables, for a graph that is to fit the edition `to`.
+pub fn read_edition(
+    from: Edition,
+    to: Edition,
+    bytes: &[u8],
+    labels: &mut [Label],
+    edges: &mut [u8],
+) -> ReadAnswer
+    ensures { λ r. ⌜ readingOf r (now (labels .exit)) (now (edges .exit)) ≡ readingEdition from to (now (labels .entry)) (now (edges .entry)) (now (bytes .entry)) ⌝ }
 {
     if labels.len() != MAX_ORDER {
         return ReadAnswer::Tables;
@@ -69,7 +86,14 @@ pub fn read_graph(bytes: &[u8], labels: &mut [Label], edges: &mut [u8]) -> ReadA
     if edges.len() != EDGE_BYTES {
         return ReadAnswer::Tables;
     }
-    tables::clear(labels);
+    tables::clear_labels(labels);
     tables::clear(edges);
-    reader::read_commands(bytes, labels, edges)
+    reader::read_file(from, to, bytes, labels, edges)
+}
+
+// Reads graph bytes into the two tables.
+pub fn read_graph(bytes: &[u8], labels: &mut [Label], edges: &mut [u8]) -> ReadAnswer
+    ensures { λ r. ⌜ readingOf r (now (labels .exit)) (now (edges .exit)) ≡ reading (now (labels .entry)) (now (edges .entry)) (now (bytes .entry)) ⌝ }
+{
+    read_edition(Edition::Two, Edition::Two, bytes, labels, edges)
 }

@@ -1,5 +1,6 @@
-// Tables filled with 0.
+// Tables filled with 0: one function for each width.
 
+use graph::Label;
 ghost use mathlib.Core.Path.{_≡_};
 ghost use lib.ListN.{length, replicate};
 
@@ -11,5 +12,16 @@ pub fn clear(table: &mut [u8])
     while i < table.len() {
         table[i] = 0;
         i += 1;
+    }
+}
+
+// Every label becomes 0.
+pub fn clear_labels(table: &mut [Label])
+    ensures { λ _. ⌜ now (table .exit) ≡ replicate (length (now (table .entry))) 0 ⌝ }
+{
+    let mut v = 0;
+    while v < table.len() {
+        table[v] = 0;
+        v += 1;
     }
 }

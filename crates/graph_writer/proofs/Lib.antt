@@ -1,7 +1,10 @@
 pub mod Length
 pub mod PartialTables
 pub mod RoundTrip
+pub mod SameReading
 pub mod Stretches
 pub mod WriteSections
 pub mod Written
 pub mod LongestFile
+pub mod MovedFile
+pub mod Moves

@@ -1,8 +1,8 @@
-// The bytes of a graph, counted and then written.
+// The bytes of a graph in either edition, counted and then written.
 
-use super::WriteAnswer;
 use graph::Label;
 use graph::MAX_ORDER;
+use graph_reader::Edition;
 ghost use mathlib.Core.Path.{_≡_};
 ghost use mathlib.Core.List.{[], _∷_};
 ghost use Prim.Native.Nat.{_+_, _*_, _≤_, _<_};
@@ -11,7 +11,14 @@ ghost use lib.Seq.{sets};
 ghost use Rattle.bounded.specs.Below.{runBelow};
 ghost use Rattle.answers.specs.Output.{fill};
 ghost use Rattle.graph.specs.Graph.{graph};
-ghost use Rattle.graph_writer.specs.Writing.{vertexBytes, rowBytes, graphBytes, listed, rowEdgeCount, edgeCount, writingOf};
+ghost use Rattle.graph_reader.specs.Editions.{opening, openingWidth, vertexWidth, greatestLabel, LabelsFit};
+ghost use Rattle.graph_writer.specs.Writing.{vertexCommand, vertexBytes, frontLength, rowBytes, editionBytes, listed, rowEdgeCount, edgeCount, filledOf};
+
+// What became of the bytes: how many were written, or there was no room.
+pub enum Filled {
+    Written(usize),
+    TooShort,
+}
 
 // Whether the writer gives the edge of a and b: where it is not null, and b is not before a.
 pub fn is_listed(edges: &[u8], a: usize, b: usize) -> bool
@@ -70,13 +77,55 @@ pub fn put_edge(out: &mut [u8], at: usize, a: u8, b: u8, label: u8)
     put_pair(out, at + 2, b, label);
 }
 
-pub fn write_vertices(order: usize, labels: &[Label], out: &mut [u8])
-    requires { ⌜ (length (now labels) ≡ 64) × (order ≤ 64) × (2 * order ≤ length (now out)) ⌝ }
-    ensures { λ _. ⌜ now (out .exit) ≡ sets (now (out .entry)) 0 (runBelow order (vertexBytes (graph order (now (labels .entry)) []))) ⌝ }
+// The command of one vertex. Returns the place after it.
+pub fn put_vertex(edition: Edition, label: Label, out: &mut [u8], at: usize) -> usize
+    requires { ⌜ (label ≤ greatestLabel edition) × (at + vertexWidth edition ≤ length (now out)) ⌝ }
+    ensures place { λ r. ⌜ r ≡ at + vertexWidth edition ⌝ }
+    ensures bytes { λ _. ⌜ now (out .exit) ≡ sets (now (out .entry)) at (vertexCommand edition label) ⌝ }
 {
+    match edition {
+        Edition::One => {
+            put_pair(out, at, 1, label as u8);
+            at + 2
+        }
+        Edition::Two => {
+            put_pair(out, at, 3, (label % 256) as u8);
+            out[at + 2] = (label / 256) as u8;
+            at + 3
+        }
+    }
+}
+
+// How the edition begins. Returns the place after it.
+pub fn put_opening(edition: Edition, out: &mut [u8]) -> usize
+    requires { ⌜ openingWidth edition ≤ length (now out) ⌝ }
+    ensures place { λ r. ⌜ r ≡ openingWidth edition ⌝ }
+    ensures bytes { λ _. ⌜ now (out .exit) ≡ sets (now (out .entry)) 0 (opening edition) ⌝ }
+{
+    match edition {
+        Edition::One => 0,
+        Edition::Two => {
+            put_pair(out, 0, 4, 2);
+            2
+        }
+    }
+}
+
+pub fn write_vertices(
+    edition: Edition,
+    order: usize,
+    labels: &[Label],
+    out: &mut [u8],
+    start: usize,
+)
+    requires { ⌜ (length (now labels) ≡ 64) × (order ≤ 64) × LabelsFit edition (graph order (now labels) [])
+        × (start + length (runBelow order (vertexBytes edition (graph order (now labels) []))) ≤ length (now out)) ⌝ }
+    ensures { λ _. ⌜ now (out .exit) ≡ sets (now (out .entry)) start (runBelow order (vertexBytes edition (graph order (now (labels .entry)) []))) ⌝ }
+{
+    let mut at = start;
     let mut v = 0;
     while v < order {
-        put_pair(out, 2 * v, 1, labels[v]);
+        at = put_vertex(edition, labels[v], out, at);
         v += 1;
     }
 }
@@ -113,17 +162,36 @@ pub fn write_rows(order: usize, edges: &[u8], out: &mut [u8], start: usize) -> u
     at
 }
 
-// The bytes of a graph that is known to be sound, where `out` has room for them.
-pub fn write_sound(order: usize, labels: &[Label], edges: &[u8], out: &mut [u8]) -> WriteAnswer
-    requires { ⌜ (length (now labels) ≡ 64) × (length (now edges) ≡ 4096) × (order ≤ 64) ⌝ }
-    ensures { λ r. ⌜ writingOf r (now (out .exit)) ≡ fill (graphBytes (graph order (now (labels .entry)) (now (edges .entry)))) (now (out .entry)) ⌝ }
+// How many bytes the opening and all vertices take.
+pub fn front_length(edition: Edition, order: usize) -> usize
+    requires { ⌜ order ≤ 64 ⌝ }
+    ensures { λ r. ⌜ r ≡ frontLength edition order ⌝ }
 {
-    let total = 2 * order + 4 * count_edges(order, edges) + 1;
-    if out.len() < total {
-        return WriteAnswer::TooShort;
+    match edition {
+        Edition::One => 2 * order,
+        Edition::Two => 2 + 3 * order,
     }
-    write_vertices(order, labels, out);
-    let end = write_rows(order, edges, out, 2 * order);
+}
+
+// The bytes of a graph that is known to be sound, with labels that the edition holds, where `out` has room for them.
+pub fn write_sound(
+    edition: Edition,
+    order: usize,
+    labels: &[Label],
+    edges: &[u8],
+    out: &mut [u8],
+) -> Filled
+    requires { ⌜ (length (now labels) ≡ 64) × (length (now edges) ≡ 4096) × (order ≤ 64) × LabelsFit edition (graph order (now labels) []) ⌝ }
+    ensures { λ r. ⌜ filledOf r (now (out .exit)) ≡ fill (editionBytes edition (graph order (now (labels .entry)) (now (edges .entry)))) (now (out .entry)) ⌝ }
+{
+    let front = front_length(edition, order);
+    let total = front + 4 * count_edges(order, edges) + 1;
+    if out.len() < total {
+        return Filled::TooShort;
+    }
+    let first = put_opening(edition, out);
+    write_vertices(edition, order, labels, out, first);
+    let end = write_rows(order, edges, out, front);
     out[end] = 0;
-    WriteAnswer::Written(total)
+    Filled::Written(total)
 }

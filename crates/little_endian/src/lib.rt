@@ -1,8 +1,8 @@
-// Numbers of 64 bits as eight bytes, the lowest first, by arithmetic.
+// Numbers of 64 bits as eight bytes, and of 16 bits as two, the lowest first, by arithmetic.
 
 ghost use mathlib.Core.Path.{_≡_};
 ghost use lib.ListN.{take};
-ghost use Rattle.little_endian.specs.LittleEndian.{littleEndian, fromLittle};
+ghost use Rattle.little_endian.specs.LittleEndian.{littleEndian, fromLittle, twoBytes};
 
 // The eight bytes of x.
 pub fn store(x: u64) -> [u8; 8]
@@ -43,4 +43,11 @@ pub fn join(bytes: [u8; 8]) -> u64
         + 256 * (bytes[5] as u64 + 256 * (bytes[6] as u64 + 256 * (bytes[7] as u64)));
     bytes[0] as u64
         + 256 * (bytes[1] as u64 + 256 * (bytes[2] as u64 + 256 * (bytes[3] as u64 + 256 * high)))
+}
+
+// The number of two bytes.
+pub fn join_two(low: u8, high: u8) -> u16
+    ensures { λ r. ⌜ r ≡ twoBytes low high ⌝ }
+{
+    low as u16 + 256 * (high as u16)
 }

@@ -1,6 +1,6 @@
 // Runs `mapping::check_mapping` on small cases and writes what each says. The expected output was worked out by hand from document 01,
-// "Good partner lists" and "Refusals by place of checking", and from document 02: U1, where a list of substitutes is lent, and
-// U4, where a part has a link with itself.
+// "Good partner lists" and "Refusals by place of checking", and from document 02: U1, where a list of substitutes is lent, U4, where a part
+// has a link with itself, and U6, where kinds have two bytes.
 
 mod lines;
 mod tables;
@@ -17,9 +17,9 @@ fn case(
     substitutes: &[u8],
     list: &[u8],
 ) {
-    let mut old_labels = [0u8; 64];
+    let mut old_labels = [0u16; 64];
     let mut old_edges = [0u8; 4096];
-    let mut new_labels = [0u8; 64];
+    let mut new_labels = [0u16; 64];
     let mut new_edges = [0u8; 4096];
     let old_order = tables::fill(old, old_harm, &mut old_labels, &mut old_edges);
     let new_order = tables::fill(new, new_harm, &mut new_labels, &mut new_edges);
@@ -44,9 +44,9 @@ fn case(
 fn on_p(name: &[u8], old_harm: Harm, new_harm: Harm, list: &[u8]) {
     case(
         name,
-        b"\x01\x07\x01\x09\x01\x07\x02\x00\x01\x01\x02\x01\x02\x01\x00",
+        b"\x04\x02\x03\x07\x00\x03\x09\x00\x03\x07\x00\x02\x00\x01\x01\x02\x01\x02\x01\x00",
         old_harm,
-        b"\x01\x09\x01\x07\x02\x00\x01\x01\x00",
+        b"\x04\x02\x03\x09\x00\x03\x07\x00\x02\x00\x01\x01\x00",
         new_harm,
         b"",
         list,
@@ -57,9 +57,9 @@ fn on_p(name: &[u8], old_harm: Harm, new_harm: Harm, list: &[u8]) {
 fn on_q(name: &[u8], list: &[u8]) {
     case(
         name,
-        b"\x01\x07\x01\x07\x01\x07\x01\x07\x02\x00\x01\x01\x02\x01\x02\x01\x00",
+        b"\x04\x02\x03\x07\x00\x03\x07\x00\x03\x07\x00\x03\x07\x00\x02\x00\x01\x01\x02\x01\x02\x01\x00",
         Harm::Sound,
-        b"\x01\x07\x01\x07\x01\x07\x01\x07\x02\x00\x01\x01\x02\x01\x02\x02\x00",
+        b"\x04\x02\x03\x07\x00\x03\x07\x00\x03\x07\x00\x03\x07\x00\x02\x00\x01\x01\x02\x01\x02\x02\x00",
         Harm::Sound,
         b"",
         list,
@@ -73,8 +73,7 @@ fn on_sound(name: &[u8], old: &[u8], new: &[u8], list: &[u8]) {
 
 // 64 parts of kind 1 on each side, and no links.
 fn on_full(name: &[u8], list: &[u8]) {
-    let mut bytes = [1u8; 129];
-    bytes[128] = 0;
+    let bytes = tables::full_graph();
     case(name, &bytes, Harm::Sound, &bytes, Harm::Sound, b"", list);
 }
 
@@ -82,9 +81,9 @@ fn on_full(name: &[u8], list: &[u8]) {
 fn on_seven_and_nine(name: &[u8], substitutes: &[u8], list: &[u8]) {
     case(
         name,
-        b"\x01\x07\x00",
+        b"\x04\x02\x03\x07\x00\x00",
         Harm::Sound,
-        b"\x01\x09\x00",
+        b"\x04\x02\x03\x09\x00\x00",
         Harm::Sound,
         substitutes,
         list,
@@ -237,32 +236,32 @@ fn earlier_rows() {
 fn own_edges() {
     on_sound(
         b"own edge in the old graph only",
-        b"\x01\x07\x02\x00\x00\x01\x00",
-        b"\x01\x07\x00",
+        b"\x04\x02\x03\x07\x00\x02\x00\x00\x01\x00",
+        b"\x04\x02\x03\x07\x00\x00",
         b"\x00",
     );
     on_sound(
         b"own edge in the new graph only",
-        b"\x01\x07\x00",
-        b"\x01\x07\x02\x00\x00\x01\x00",
+        b"\x04\x02\x03\x07\x00\x00",
+        b"\x04\x02\x03\x07\x00\x02\x00\x00\x01\x00",
         b"\x00",
     );
     on_sound(
         b"own edges of two kinds",
-        b"\x01\x07\x02\x00\x00\x01\x00",
-        b"\x01\x07\x02\x00\x00\x02\x00",
+        b"\x04\x02\x03\x07\x00\x02\x00\x00\x01\x00",
+        b"\x04\x02\x03\x07\x00\x02\x00\x00\x02\x00",
         b"\x00",
     );
     on_sound(
         b"equal own edges",
-        b"\x01\x07\x02\x00\x00\x01\x00",
-        b"\x01\x07\x02\x00\x00\x01\x00",
+        b"\x04\x02\x03\x07\x00\x02\x00\x00\x01\x00",
+        b"\x04\x02\x03\x07\x00\x02\x00\x00\x01\x00",
         b"\x00",
     );
     on_sound(
         b"own edge of a row left out",
-        b"\x01\x07\x01\x07\x02\x00\x00\x01\x00",
-        b"\x01\x07\x00",
+        b"\x04\x02\x03\x07\x00\x03\x07\x00\x02\x00\x00\x01\x00",
+        b"\x04\x02\x03\x07\x00\x00",
         b"\xff\x00",
     );
 }
@@ -271,26 +270,26 @@ fn own_edges() {
 fn own_edges_in_turn() {
     on_sound(
         b"labels differ before own edges differ",
-        b"\x01\x07\x02\x00\x00\x01\x00",
-        b"\x01\x09\x00",
+        b"\x04\x02\x03\x07\x00\x02\x00\x00\x01\x00",
+        b"\x04\x02\x03\x09\x00\x00",
         b"\x00",
     );
     on_sound(
         b"own edges differ before one partner",
-        b"\x01\x07\x01\x07\x02\x01\x01\x01\x00",
-        b"\x01\x07\x00",
+        b"\x04\x02\x03\x07\x00\x03\x07\x00\x02\x01\x01\x01\x00",
+        b"\x04\x02\x03\x07\x00\x00",
         b"\x00\x00",
     );
     on_sound(
         b"equal own edges, one partner",
-        b"\x01\x07\x01\x07\x02\x00\x00\x01\x02\x01\x01\x01\x00",
-        b"\x01\x07\x02\x00\x00\x01\x00",
+        b"\x04\x02\x03\x07\x00\x03\x07\x00\x02\x00\x00\x01\x02\x01\x01\x01\x00",
+        b"\x04\x02\x03\x07\x00\x02\x00\x00\x01\x00",
         b"\x00\x00",
     );
     on_sound(
         b"own edges differ before edges differ with row 0",
-        b"\x01\x07\x01\x07\x02\x00\x01\x01\x02\x01\x01\x01\x00",
-        b"\x01\x07\x01\x07\x00",
+        b"\x04\x02\x03\x07\x00\x03\x07\x00\x02\x00\x01\x01\x02\x01\x01\x01\x00",
+        b"\x04\x02\x03\x07\x00\x03\x07\x00\x00",
         b"\x00\x01",
     );
 }
@@ -313,45 +312,45 @@ fn good() {
 fn empty_graphs() {
     case(
         b"both empty",
-        b"\x00",
+        b"\x04\x02\x00",
         Harm::Sound,
-        b"\x00",
+        b"\x04\x02\x00",
         Harm::Sound,
         b"",
         b"",
     );
     case(
         b"both empty, one row",
-        b"\x00",
+        b"\x04\x02\x00",
         Harm::Sound,
-        b"\x00",
+        b"\x04\x02\x00",
         Harm::Sound,
         b"",
         b"\xff",
     );
     case(
         b"old empty",
-        b"\x00",
+        b"\x04\x02\x00",
         Harm::Sound,
-        b"\x01\x07\x00",
+        b"\x04\x02\x03\x07\x00\x00",
         Harm::Sound,
         b"",
         b"",
     );
     case(
         b"new empty",
-        b"\x01\x07\x00",
+        b"\x04\x02\x03\x07\x00\x00",
         Harm::Sound,
-        b"\x00",
+        b"\x04\x02\x00",
         Harm::Sound,
         b"",
         b"\xff",
     );
     case(
         b"new empty, row mapped",
-        b"\x01\x07\x00",
+        b"\x04\x02\x03\x07\x00\x00",
         Harm::Sound,
-        b"\x00",
+        b"\x04\x02\x00",
         Harm::Sound,
         b"",
         b"\x00",
@@ -374,43 +373,83 @@ fn full_graphs() {
 }
 
 fn pairs_read() {
-    on_seven_and_nine(b"substitutes 7 9", b"\x07\x09", b"\x00");
-    on_seven_and_nine(b"substitutes 9 7, directed", b"\x09\x07", b"\x00");
+    on_seven_and_nine(b"substitutes 7 9", b"\x07\x00\x09\x00", b"\x00");
+    on_seven_and_nine(b"substitutes 9 7, directed", b"\x09\x00\x07\x00", b"\x00");
     on_seven_and_nine(
         b"substitutes 7 8 8 9, no chain",
-        b"\x07\x08\x08\x09",
+        b"\x07\x00\x08\x00\x08\x00\x09\x00",
         b"\x00",
     );
     on_seven_and_nine(b"no substitutes", b"", b"\x00");
     on_seven_and_nine(
         b"the last pair of several",
-        b"\x07\x08\x09\x07\x08\x09\x07\x09",
+        b"\x07\x00\x08\x00\x09\x00\x07\x00\x08\x00\x09\x00\x07\x00\x09\x00",
         b"\x00",
     );
     case(
         b"equal kinds, substitutes of others",
-        b"\x01\x07\x00",
+        b"\x04\x02\x03\x07\x00\x00",
         Harm::Sound,
-        b"\x01\x07\x00",
+        b"\x04\x02\x03\x07\x00\x00",
         Harm::Sound,
-        b"\x08\x09",
+        b"\x08\x00\x09\x00",
         b"\x00",
     );
     case(
         b"links have no substitutes",
-        b"\x01\x07\x01\x07\x02\x00\x01\x07\x00",
+        b"\x04\x02\x03\x07\x00\x03\x07\x00\x02\x00\x01\x07\x00",
         Harm::Sound,
-        b"\x01\x09\x01\x09\x02\x00\x01\x09\x00",
+        b"\x04\x02\x03\x09\x00\x03\x09\x00\x02\x00\x01\x09\x00",
         Harm::Sound,
-        b"\x07\x09",
+        b"\x07\x00\x09\x00",
         b"\x00\x01",
+    );
+}
+
+// One part of kind 263, and one of kind 7, whose low bytes are the same.
+fn on_low_bytes(name: &[u8], substitutes: &[u8]) {
+    case(
+        name,
+        b"\x04\x02\x03\x07\x01\x00",
+        Harm::Sound,
+        b"\x04\x02\x03\x07\x00\x00",
+        Harm::Sound,
+        substitutes,
+        b"\x00",
+    );
+}
+
+fn wide_kinds() {
+    on_low_bytes(b"263 and 7, no substitutes", b"");
+    on_low_bytes(b"263 and 7, substitutes 263 7", b"\x07\x01\x07\x00");
+    on_low_bytes(
+        b"263 and 7, substitutes 7 263, directed",
+        b"\x07\x00\x07\x01",
+    );
+    on_low_bytes(b"263 and 7, substitutes 7 7", b"\x07\x00\x07\x00");
+    on_sound(
+        b"263 and 263",
+        b"\x04\x02\x03\x07\x01\x00",
+        b"\x04\x02\x03\x07\x01\x00",
+        b"\x00",
+    );
+    on_seven_and_nine(
+        b"substitutes 256 9, no kind 0",
+        b"\x00\x01\x09\x00",
+        b"\x00",
     );
 }
 
 fn pairs_refused() {
     on_seven_and_nine(b"one byte of substitutes", b"\x07", b"\x00");
-    on_seven_and_nine(b"substitutes 7 0", b"\x07\x00", b"\x00");
-    on_seven_and_nine(b"substitutes 0 7", b"\x00\x07", b"\x00");
+    on_seven_and_nine(b"substitutes 7 9 of a byte each", b"\x07\x09", b"\x00");
+    on_seven_and_nine(
+        b"six bytes of substitutes with a kind 0",
+        b"\x07\x00\x00\x00\x07\x00",
+        b"\x00",
+    );
+    on_seven_and_nine(b"substitutes 7 0", b"\x07\x00\x00\x00", b"\x00");
+    on_seven_and_nine(b"substitutes 0 7", b"\x00\x00\x07\x00", b"\x00");
     on_seven_and_nine(
         b"one byte of substitutes, list too long",
         b"\x07",
@@ -418,9 +457,9 @@ fn pairs_refused() {
     );
     case(
         b"old kind 0, one byte of substitutes",
-        b"\x01\x07\x00",
+        b"\x04\x02\x03\x07\x00\x00",
         Harm::NoLabel,
-        b"\x01\x09\x00",
+        b"\x04\x02\x03\x09\x00\x00",
         Harm::Sound,
         b"\x07",
         b"\x00",
@@ -428,11 +467,11 @@ fn pairs_refused() {
 }
 
 fn many_pairs() {
-    let mut bytes = [0u8; 514];
+    let mut bytes = [0u8; 1028];
     tables::fill_pairs(&mut bytes);
-    on_seven_and_nine(b"512 bytes of substitutes", &bytes[..512], b"\x00");
-    bytes[513] = 0;
-    on_seven_and_nine(b"514 bytes of substitutes with a 0", &bytes, b"\x00");
+    on_seven_and_nine(b"1024 bytes of substitutes", &bytes[..1024], b"\x00");
+    bytes[1026] = 0;
+    on_seven_and_nine(b"1028 bytes of substitutes with a kind 0", &bytes, b"\x00");
 }
 
 fn main() {
@@ -450,6 +489,7 @@ fn main() {
     empty_graphs();
     full_graphs();
     pairs_read();
+    wide_kinds();
     pairs_refused();
     many_pairs();
 }

@@ -1,5 +1,6 @@
-// What a case lends: the tables of a graph read from its bytes, and then harmed in at most one way; and a long list of substitutes.
+// What a case lends: the tables of a graph read from its bytes, and then harmed in at most one way; a long list of substitutes; and a graph's bytes.
 
+use graph::Label;
 use graph_reader::ReadAnswer;
 use libc::STDOUT_FILENO;
 ghost use mathlib.Core.Path.{_≡_};
@@ -24,7 +25,7 @@ pub enum Harm {
 }
 
 // The graph's order. Bytes that hold no graph are told of in the output.
-fn read(bytes: &[u8], labels: &mut [u8], edges: &mut [u8]) -> usize {
+fn read(bytes: &[u8], labels: &mut [Label], edges: &mut [u8]) -> usize {
     match graph_reader::read_graph(bytes, labels, edges) {
         ReadAnswer::Order(order) => order,
         ReadAnswer::Tables => {
@@ -39,7 +40,7 @@ fn read(bytes: &[u8], labels: &mut [u8], edges: &mut [u8]) -> usize {
 }
 
 // Fills the tables, and answers with the order to lend.
-pub fn fill(bytes: &[u8], harm: Harm, labels: &mut [u8], edges: &mut [u8]) -> usize
+pub fn fill(bytes: &[u8], harm: Harm, labels: &mut [Label], edges: &mut [u8]) -> usize
     requires { ⌜ (length (now labels) ≡ 64) × (length (now edges) ≡ 4096) ⌝ }
 {
     let order = read(bytes, labels, edges);
@@ -81,14 +82,30 @@ pub fn edges_lent(harm: Harm) -> usize
     }
 }
 
-// 257 times the pair of 7 and 9.
+// 257 times the pair of 7 and 9, in bytes that are 0.
 pub fn fill_pairs(bytes: &mut [u8])
-    requires { ⌜ length (now bytes) ≡ 514 ⌝ }
+    requires { ⌜ length (now bytes) ≡ 1028 ⌝ }
 {
     let mut k = 0;
     while k < 257 {
-        bytes[2 * k] = 7;
-        bytes[2 * k + 1] = 9;
+        bytes[4 * k] = 7;
+        bytes[4 * k + 2] = 9;
         k += 1;
     }
+}
+
+// 64 vertices of label 1, and no edges.
+pub fn full_graph() -> [u8; 195]
+    ensures { λ r. ⌜ 195 ≡ length r ⌝ }
+{
+    let mut bytes = [0u8; 195];
+    bytes[0] = 4;
+    bytes[1] = 2;
+    let mut v = 0;
+    while v < 64 {
+        bytes[3 * v + 2] = 3;
+        bytes[3 * v + 3] = 1;
+        v += 1;
+    }
+    bytes
 }

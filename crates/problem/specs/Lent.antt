@@ -1,5 +1,6 @@
 -- Two graphs as the code is lent them: an array of their orders, one of their label tables and one of their edge tables, each with the old graph's
--- at 0 and the new graph's at 1 (01, "Charts", "Tables: 64 kind bytes and 4,096 link bytes"); and the list of substitutes (02, U1, "A lent list").
+-- at 0 and the new graph's at 1 (01, "Charts", "Tables: 64 kind bytes and 4,096 link bytes", the kinds since 02, U6, "64 numbers of 16 bits"); and the list of
+-- substitutes (02, U1, "A lent list").
 use mathlib.Core.List.{List, []}
 use mathlib.Core.Path.{_≡_}
 use Prim.Native.Nat.{ℕ}

@@ -8,12 +8,12 @@ ghost use Rattle.problem.specs.VertexSets.{Diagonal, MetAll};
 pub fn diagonal(edges: &[u8]) -> [Label; MAX_ORDER]
     ensures { λ r. ⌜ Diagonal (now (edges .entry)) r ⌝ }
 {
-    let mut own = [0u8; MAX_ORDER];
+    let mut own: [Label; MAX_ORDER] = [0; MAX_ORDER];
     let mut v = 0;
     while v < MAX_ORDER {
         let at = MAX_ORDER * v + v;
         if at < edges.len() {
-            own[v] = edges[at];
+            own[v] = edges[at] as Label;
         }
         v += 1;
     }

@@ -1,4 +1,4 @@
--- The graphs of 01's marked examples and of 02's, read from their bytes, and that they are sound: computing that would take minutes, so it is cited.
+-- The graphs of 01's marked examples and of 02's, read from their bytes in edition 2 (02, U6), and that they are sound: computing that would take minutes, so it is cited.
 use mathlib.Core.Path.{_≡_, refl}
 use mathlib.Core.Bool.{Bool, true, _&&_, and-eq-true-iff}
 use mathlib.Core.List.{List, [], _∷_}
@@ -9,7 +9,7 @@ use lib.ListN.{getD, replicate}
 use borrow.Author.Tests.{leb-true}
 use Rattle.answers.specs.Answer.{Answer, passed, accepted, refused, refusedAt}
 use Rattle.graph.specs.Graph.{Graph, graph, Sound}
-use Rattle.graph_reader.specs.Reading.{Reading, reading, readFrom, judge}
+use Rattle.graph_reader.specs.Reading.{Reading, reading, readingEdition, readFile, opens, readAt, readFrom, judge}
 use Rattle.graph_reader.proofs.ReadSound.{reading-sound}
 use Rattle.substitutes.specs.Soundness.{substitutesAnswer}
 use Rattle.substitutes.proofs.SoundList.{none-sound, passes-sound-list}
@@ -34,49 +34,49 @@ read bytes = graphOf (readTables bytes)
 abbrev pub between : List ℕ → List ℕ → Problem
 between old new = problem (read old) (read new)
 
--- 01's P: old 1 7 1 9 1 7 2 0 1 1 2 1 2 1 0, new 1 9 1 7 2 0 1 1 0
+-- 01's P: old 1 7 1 9 1 7 2 0 1 1 2 1 2 1 0, new 1 9 1 7 2 0 1 1 0 as files of edition 1
 abbrev pub old : List ℕ
-old = 1 ∷ 7 ∷ 1 ∷ 9 ∷ 1 ∷ 7 ∷ 2 ∷ 0 ∷ 1 ∷ 1 ∷ 2 ∷ 1 ∷ 2 ∷ 1 ∷ 0 ∷ []
+old = 4 ∷ 2 ∷ 3 ∷ 7 ∷ 0 ∷ 3 ∷ 9 ∷ 0 ∷ 3 ∷ 7 ∷ 0 ∷ 2 ∷ 0 ∷ 1 ∷ 1 ∷ 2 ∷ 1 ∷ 2 ∷ 1 ∷ 0 ∷ []
 
 abbrev pub new : List ℕ
-new = 1 ∷ 9 ∷ 1 ∷ 7 ∷ 2 ∷ 0 ∷ 1 ∷ 1 ∷ 0 ∷ []
+new = 4 ∷ 2 ∷ 3 ∷ 9 ∷ 0 ∷ 3 ∷ 7 ∷ 0 ∷ 2 ∷ 0 ∷ 1 ∷ 1 ∷ 0 ∷ []
 
 abbrev pub pair : Problem
 pair = between old new
 
 abbrev pub empty : List ℕ
-empty = 0 ∷ []
+empty = 4 ∷ 2 ∷ 0 ∷ []
 
 -- one part of kind 7; two of kind 7; 7 and 9 linked by 1; 7 and 9 unlinked
 abbrev pub one : List ℕ
-one = 1 ∷ 7 ∷ 0 ∷ []
+one = 4 ∷ 2 ∷ 3 ∷ 7 ∷ 0 ∷ 0 ∷ []
 
 abbrev pub two : List ℕ
-two = 1 ∷ 7 ∷ 1 ∷ 7 ∷ 0 ∷ []
+two = 4 ∷ 2 ∷ 3 ∷ 7 ∷ 0 ∷ 3 ∷ 7 ∷ 0 ∷ 0 ∷ []
 
 abbrev pub linked : List ℕ
-linked = 1 ∷ 7 ∷ 1 ∷ 9 ∷ 2 ∷ 0 ∷ 1 ∷ 1 ∷ 0 ∷ []
+linked = 4 ∷ 2 ∷ 3 ∷ 7 ∷ 0 ∷ 3 ∷ 9 ∷ 0 ∷ 2 ∷ 0 ∷ 1 ∷ 1 ∷ 0 ∷ []
 
 abbrev pub unlinked : List ℕ
-unlinked = 1 ∷ 7 ∷ 1 ∷ 9 ∷ 0 ∷ []
+unlinked = 4 ∷ 2 ∷ 3 ∷ 7 ∷ 0 ∷ 3 ∷ 9 ∷ 0 ∷ 0 ∷ []
 
 abbrev pub nine : List ℕ
-nine = 1 ∷ 9 ∷ 0 ∷ []
+nine = 4 ∷ 2 ∷ 3 ∷ 9 ∷ 0 ∷ 0 ∷ []
 
 -- two parts of kind 7, linked by this kind
 abbrev pub sevens : ℕ → List ℕ
-sevens kind = 1 ∷ 7 ∷ 1 ∷ 7 ∷ 2 ∷ 0 ∷ 1 ∷ kind ∷ 0 ∷ []
+sevens kind = 4 ∷ 2 ∷ 3 ∷ 7 ∷ 0 ∷ 3 ∷ 7 ∷ 0 ∷ 2 ∷ 0 ∷ 1 ∷ kind ∷ 0 ∷ []
 
 -- three parts of kind 7, the first two linked by 1
 abbrev pub loose : List ℕ
-loose = 1 ∷ 7 ∷ 1 ∷ 7 ∷ 1 ∷ 7 ∷ 2 ∷ 0 ∷ 1 ∷ 1 ∷ 0 ∷ []
+loose = 4 ∷ 2 ∷ 3 ∷ 7 ∷ 0 ∷ 3 ∷ 7 ∷ 0 ∷ 3 ∷ 7 ∷ 0 ∷ 2 ∷ 0 ∷ 1 ∷ 1 ∷ 0 ∷ []
 
 -- one part of kind 7, linked with itself by this kind; two of kind 7, linked with each other and with themselves by 5
 abbrev pub held : ℕ → List ℕ
-held kind = 1 ∷ 7 ∷ 2 ∷ 0 ∷ 0 ∷ kind ∷ 0 ∷ []
+held kind = 4 ∷ 2 ∷ 3 ∷ 7 ∷ 0 ∷ 2 ∷ 0 ∷ 0 ∷ kind ∷ 0 ∷ []
 
 abbrev pub allFives : List ℕ
-allFives = 1 ∷ 7 ∷ 1 ∷ 7 ∷ 2 ∷ 0 ∷ 0 ∷ 5 ∷ 2 ∷ 1 ∷ 1 ∷ 5 ∷ 2 ∷ 0 ∷ 1 ∷ 5 ∷ 0 ∷ []
+allFives = 4 ∷ 2 ∷ 3 ∷ 7 ∷ 0 ∷ 3 ∷ 7 ∷ 0 ∷ 2 ∷ 0 ∷ 0 ∷ 5 ∷ 2 ∷ 1 ∷ 1 ∷ 5 ∷ 2 ∷ 0 ∷ 1 ∷ 5 ∷ 0 ∷ []
 
 -- one part of kind 7 against one of kind 9, with these substitutes
 abbrev pub listing : List ℕ → Problem
@@ -106,36 +106,36 @@ between-sound l k sl sk n m el ek = record {
 }
 
 pub pair-sound : SoundProblem pair
-unfolding reading readFrom judge bytes
+unfolding reading readingEdition readFile opens readAt readFrom judge bytes
 pair-sound = between-sound old new refl refl 3 2 refl refl
 
 pub empty-sound : SoundProblem (between empty empty)
-unfolding reading readFrom judge bytes
+unfolding reading readingEdition readFile opens readAt readFrom judge bytes
 empty-sound = between-sound empty empty refl refl 0 0 refl refl
 
 pub one-sound : SoundProblem (between one two)
-unfolding reading readFrom judge bytes
+unfolding reading readingEdition readFile opens readAt readFrom judge bytes
 one-sound = between-sound one two refl refl 1 2 refl refl
 
 pub linked-sound : SoundProblem (between linked unlinked)
-unfolding reading readFrom judge bytes
+unfolding reading readingEdition readFile opens readAt readFrom judge bytes
 linked-sound = between-sound linked unlinked refl refl 2 2 refl refl
 
 pub listing-sound : (list : List ℕ) → substitutesAnswer list ≡ passed → SoundProblem (listing list)
-unfolding reading readFrom judge bytes
+unfolding reading readingEdition readFile opens readAt readFrom judge bytes
 listing-sound list e =
     let graphs = between-sound one nine refl refl 1 1 refl refl in
     record { old-sound = graphs .old-sound; new-sound = graphs .new-sound; substitutes-sound = passes-sound-list list e }
 
 pub sevens-sound : SoundProblem (between (sevens 1) (sevens 2))
-unfolding reading readFrom judge bytes
+unfolding reading readingEdition readFile opens readAt readFrom judge bytes
 sevens-sound = between-sound (sevens 1) (sevens 2) refl refl 2 2 refl refl
 
 -- one part held by itself against one that is not
 pub held-sound : SoundProblem (between (held 1) one)
-unfolding reading readFrom judge bytes
+unfolding reading readingEdition readFile opens readAt readFrom judge bytes
 held-sound = between-sound (held 1) one refl refl 1 1 refl refl
 
 pub fives-sound : SoundProblem (between allFives (held 5))
-unfolding reading readFrom judge bytes
+unfolding reading readingEdition readFile opens readAt readFrom judge bytes
 fives-sound = between-sound allFives (held 5) refl refl 2 1 refl refl

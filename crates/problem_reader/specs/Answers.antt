@@ -1,4 +1,4 @@
--- What the answer of reading two graphs says in 01's terms (01, "Refusals by place of checking", the rows "Tables lent" and "Any command" to "After the end").
+-- What the answer of reading two graphs says in 01's terms (01, "Refusals by place of checking", the rows "Tables lent" and "Any command" to "After the end"; 02, U6, 27).
 use mathlib.Core.List.{List}
 use Prim.Native.Nat.{ℕ}
 use Rattle.answers.specs.Answer.{Answer, passed}

@@ -3,7 +3,7 @@ use mathlib.Core.Bool.{cond, _&&_}
 use mathlib.Core.List.{List}
 use Prim.Native.Nat.{ℕ}
 use lib.ListN.{replicate}
-use Rattle.answers.specs.Answer.{Answer, passed, refused, refusedAt, onAnswer}
+use Rattle.answers.specs.Answer.{Answer, refused, whenAccepted}
 use Rattle.graph.specs.Graph.{graph}
 use Rattle.graph.specs.Soundness.{tablesFit}
 use Rattle.graph_reader.specs.Reading.{Reading, reading}
@@ -21,7 +21,7 @@ onOutcome p r (refusal answer) = r answer
 
 -- what follows on a graph's order; any other answer is a refusal, handed on as it is (`passed` is no answer of reading)
 abbrev pub onOrder : Answer → (ℕ → ReadOutcome) → ReadOutcome
-onOrder answer next = onAnswer (refusal passed) next (λ number. refusal (refused number)) (λ number at. refusal (refusedAt number at)) answer
+onOrder answer next = whenAccepted answer next refusal
 
 -- what the readings of the old and of the new bytes say together
 abbrev pub bothRead : Reading → Reading → ReadOutcome

@@ -38,9 +38,9 @@ fn read_file(path: &[u8], buf: &mut [u8]) -> usize
 }
 
 fn main() {
-    let mut old = [0u8; 8456];
+    let mut old = [0u8; 8520];
     let old_count = read_file(b"old.chart", &mut old);
-    let mut new = [0u8; 8456];
+    let mut new = [0u8; 8520];
     let new_count = read_file(b"new.chart", &mut new);
     // a tenth byte tells more than nine from nine
     let mut input = [0u8; 10];

@@ -1,4 +1,4 @@
--- The program reads 8,456 bytes of a file (02, U4): what it prints is what the whole files say.
+-- The program reads 8,520 bytes of a file (02, U6): what it prints is what the whole files say.
 use mathlib.Core.Path.{_≡_, refl}
 use mathlib.Core.List.{List}
 use Prim.Native.Nat.{ℕ, _≤_}
@@ -9,10 +9,10 @@ use Rattle.problem_reader.specs.ProblemReading.{readingProblem, readProblem}
 use Rattle.refit_text.specs.Program.{refitText}
 
 pub refit-cut : (old new input : List ℕ) → ((i : ℕ) → getD old i 0 ≤ 255) → ((i : ℕ) → getD new i 0 ≤ 255)
-    → refitText (take 8456 old) (take 8456 new) input ≡ refitText old new input
+    → refitText (take 8520 old) (take 8520 new) input ≡ refitText old new input
 unfolding refitText readProblem readingProblem
 refit-cut old new input old-bytes new-bytes =
     rw (
-      reading-cut (replicate 64 0) (replicate 4096 0) old old-bytes 8456 (omega arith),
-      reading-cut (replicate 64 0) (replicate 4096 0) new new-bytes 8456 (omega arith),
+      reading-cut (replicate 64 0) (replicate 4096 0) old old-bytes 8520 (omega arith),
+      reading-cut (replicate 64 0) (replicate 4096 0) new new-bytes 8520 (omega arith),
     ) refl

@@ -13,9 +13,9 @@ use Rattle.little_endian.specs.LittleEndian.{fromLittle}
 use Rattle.bounded.specs.Below.{allBelow, someBelow, sumBelow, runBelow}
 use Rattle.answers.specs.Answer.{accepted}
 use Rattle.graph.specs.Graph.{Graph, graph}
-use Rattle.graph_reader.specs.Reading.{reading, readFrom, judge, readGraph}
+use Rattle.graph_reader.specs.Reading.{reading, readingEdition, readFile, opens, readAt, readFrom, judge, readGraph}
 use Rattle.problem_reader.specs.ProblemReading.{readingProblem, readProblem}
-use Rattle.problem_reader.proofs.MarkedGraphs.{bytes, bytes-small}
+use Rattle.problem_reader.proofs.MarkedGraphs.{bytes, bytes-small, old as oldBytes, new as newBytes}
 use Rattle.problem_reader.proofs.ReadProblem.{problem-sound}
 use Rattle.substitutes.specs.Substitutes.{listed, agree}
 use Rattle.problem.specs.Problem.{Problem, SoundProblem, problem, allowed, consistent}
@@ -74,26 +74,24 @@ module _ (old new input : List ℕ) (n m : ℕ)
 
 -- ---- the examples
 
--- 01's example: old 1 7 1 9 1 7 2 0 1 1 2 1 2 1 0, new 1 9 1 7 2 0 1 1 0, and the input of a minimum and a budget below 256
-abbrev oldBytes : List ℕ
-oldBytes = 1 ∷ 7 ∷ 1 ∷ 9 ∷ 1 ∷ 7 ∷ 2 ∷ 0 ∷ 1 ∷ 1 ∷ 2 ∷ 1 ∷ 2 ∷ 1 ∷ 0 ∷ []
-
-abbrev newBytes : List ℕ
-newBytes = 1 ∷ 9 ∷ 1 ∷ 7 ∷ 2 ∷ 0 ∷ 1 ∷ 1 ∷ 0 ∷ []
-
+-- the input of a minimum and a budget below 256
 abbrev given : ℕ → ℕ → List ℕ
 given minimum budget = minimum ∷ budget ∷ 0 ∷ 0 ∷ 0 ∷ 0 ∷ 0 ∷ 0 ∷ 0 ∷ []
 
 -- an edge of a vertex that is not given, refused with 5
 abbrev missing : List ℕ
-missing = 1 ∷ 7 ∷ 2 ∷ 0 ∷ 1 ∷ 1 ∷ 0 ∷ []
+missing = 4 ∷ 2 ∷ 3 ∷ 7 ∷ 0 ∷ 2 ∷ 0 ∷ 1 ∷ 1 ∷ 0 ∷ []
+
+-- a file of edition 1
+abbrev earlier : List ℕ
+earlier = 1 ∷ 9 ∷ 1 ∷ 7 ∷ 2 ∷ 0 ∷ 1 ∷ 1 ∷ 0 ∷ []
 
 abbrev Prints : List ℕ → List ℕ → List ℕ → string.String → Type 0
 Prints old new input text = refitText old new input ≡ ascii text
 
 -- The texts of 01's section, row by row.
 pub program-example :
-    -- 01's example
+    -- 01's example, its files in edition 2 (02, U6)
     Prints oldBytes newBytes (given 1 100) "state done\nsize 2\nsteps 6\nfence 3\nkeep 0 1\nkeep 1 0\nremove 2\n"
     -- the graphs exchanged: a new vertex to fit
     × Prints newBytes oldBytes (given 1 100) "state done\nsize 2\nsteps 6\nfence 3\nkeep 0 1\nkeep 1 0\nfit 2\n"
@@ -112,12 +110,17 @@ pub program-example :
     × Prints oldBytes missing (given 1 100) "refused 5\n"
     -- the old graph is read first
     × Prints [] missing (given 1 100) "refused 1\n"
-unfolding reading readFrom judge bytes fromLittle allBelow someBelow sumBelow runBelow listed agree allowed consistent mappedFrom candidate candidates upperBound choices children choicesAfter laterSiblings openNodes visitPath visit after topBound ceiling checkpointOf digits keepLines removeLines isFree fitLines vertexLines acceptedText readProblem readingProblem refitText ascii
+    -- a file of edition 1 is not moved silently
+    × Prints earlier newBytes (given 1 100) "refused 27\n"
+    × Prints oldBytes earlier (given 1 100) "refused 27\n"
+unfolding reading readingEdition readFile opens readAt readFrom judge bytes fromLittle allBelow someBelow sumBelow runBelow listed agree allowed consistent mappedFrom candidate candidates upperBound choices children choicesAfter laterSiblings openNodes visitPath visit after topBound ceiling checkpointOf digits keepLines removeLines isFree fitLines vertexLines acceptedText readProblem readingProblem refitText ascii
 program-example = (
   printed oldBytes newBytes (given 1 100) 3 2 refl refl refl refl refl (lit< tt),
   printed newBytes oldBytes (given 1 100) 2 3 refl refl refl refl refl (lit< tt),
   printed oldBytes newBytes (given 1 3) 3 2 refl refl refl refl refl (lit< tt),
   printed oldBytes newBytes (given 3 100) 3 2 refl refl refl refl refl (lit< tt),
+  refl,
+  refl,
   refl,
   refl,
   refl,

@@ -2,6 +2,7 @@
 
 use super::report;
 use graph::EDGE_BYTES;
+use graph::Label;
 use graph::MAX_ORDER;
 use problem::Edges;
 use problem::Labels;
@@ -43,9 +44,9 @@ pub fn put_graphs(
 ) -> usize
     ensures { λ r. ⌜ Put (graphsText (now («old_bytes» .entry)) (now («new_bytes» .entry)) minimum budget) (now (out .entry)) 0 r (now (out .exit)) ⌝ }
 {
-    let mut old_labels = [0u8; MAX_ORDER];
+    let mut old_labels = [0 as Label; MAX_ORDER];
     let mut old_edges = [0u8; EDGE_BYTES];
-    let mut new_labels = [0u8; MAX_ORDER];
+    let mut new_labels = [0 as Label; MAX_ORDER];
     let mut new_edges = [0u8; EDGE_BYTES];
     let read = problem_reader::read_problem(
         old_bytes,

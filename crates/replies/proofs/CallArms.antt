@@ -9,7 +9,7 @@ use types.Run.{OneOf, miss}
 use lib.ListN.{length, take, replicate}
 use lib.Seq.{length-take-le}
 use borrow.Author.Tests.{le-leb, lt-leb}
-use Rattle.answers.specs.Answer.{Answer, accepted, valueOf}
+use Rattle.answers.specs.Answer.{Answer, accepted, valueOf, whenAccepted}
 use Rattle.answers.specs.Output.{Writing, overwrite}
 use Rattle.answers.proofs.RefusalNumbers.{RefusalNumber}
 use Rattle.problem.specs.Problem.{Problem}
@@ -35,7 +35,7 @@ use Rattle.replies.specs.declared.Reply.{Reply}
 use Rattle.replies.specs.declared.ResumeReply.{ResumeReply}
 use Rattle.replies.specs.Reply.{reply, replyOf, tooShort}
 use Rattle.replies.specs.Apart.{FoundBy, cleared}
-use Rattle.replies.specs.Resumed.{Resumed, resumed, notResumed, whenAccepted, saveOn, searchFrom, loadOn, resumeFrom}
+use Rattle.replies.specs.Resumed.{Resumed, resumed, notResumed, saveOn, searchFrom, loadOn, resumeFrom}
 use Rattle.replies.specs.ReadOut.{ReadOut, readOut, notReadOut, heldIn, readCheckpoint, readLoaded, readBytes}
 use Rattle.replies.proofs.CallKept.{Ways, Positive, save-kept, search-kept}
 

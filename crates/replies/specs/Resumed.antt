@@ -1,7 +1,7 @@
 -- The reply to a search call from checkpoint bytes to checkpoint bytes (01, "Bookmark and calls").
 use mathlib.Core.List.{List}
 use Prim.Native.Nat.{ℕ}
-use Rattle.answers.specs.Answer.{Answer, passed, refused, refusedAt, onAnswer, whenPassed}
+use Rattle.answers.specs.Answer.{Answer, whenPassed, whenAccepted}
 use Rattle.problem.specs.Problem.{Problem}
 use Rattle.checkpoint.specs.declared.Checkpoint.{Checkpoint}
 use Rattle.search.specs.Call.{Called, searchCall}
@@ -23,11 +23,6 @@ resumed r ceiling workspace next = record { reply = r; ceiling = ceiling; worksp
 -- a refusal: no ceiling
 abbrev pub notResumed : List ℕ → List ℕ → Answer → Resumed
 notResumed workspace next refusal = resumed (replyOf refusal) 0 workspace next
-
--- what follows on an accepted answer's value; any other answer is a refusal, handed on as it is
-abbrev pub whenAccepted : {A : Type 0} → Answer → (ℕ → A) → (Answer → A) → A
-whenAccepted answer next refusal =
-    onAnswer (refusal passed) next (λ number. refusal (refused number)) (λ number at. refusal (refusedAt number at)) answer
 
 -- a search call on the lent workspace, then its checkpoint saved; where either is refused, 13 for the bytes included, both buffers are as they were
 abbrev pub saveOn : Problem → Called → List ℕ → List ℕ → Resumed

@@ -10,6 +10,7 @@ use checkpoint_loader::LoadAnswer;
 use checkpoint_saver::SaveAnswer;
 use clique::CliqueAnswer;
 use graph_reader::ReadAnswer;
+use graph_writer::MoveAnswer;
 use mapping::MappingAnswer;
 use problem::Edges;
 use problem::Labels;
@@ -21,6 +22,7 @@ ghost use mathlib.Core.Path.{_≡_};
 ghost use Prim.Native.Nat.{_≤_};
 ghost use lib.ListN.{getD};
 ghost use Rattle.graph_reader.specs.Answers.{readAnswer};
+ghost use Rattle.graph_writer.specs.Answers.{moveAnswer};
 ghost use Rattle.problem.specs.Lent.{lent};
 ghost use Rattle.mapping.specs.Answers.{mappingOutcome};
 ghost use Rattle.step_limit.specs.Answers.{limitAnswerOf};
@@ -72,6 +74,15 @@ pub fn of_read(answer: ReadAnswer) -> Reply
     Reply {
         number: graph_reader::read_number(answer) as u32,
         value: values::read_value(answer),
+    }
+}
+
+pub fn of_move(answer: MoveAnswer) -> Reply
+    ensures { λ r. ⌜ r ≡ replyOf (moveAnswer answer) ⌝ }
+{
+    Reply {
+        number: graph_writer::move_number(answer) as u32,
+        value: values::move_value(answer),
     }
 }
 

@@ -4,12 +4,14 @@ use checkpoint_loader::LoadAnswer;
 use checkpoint_saver::SaveAnswer;
 use clique::CliqueAnswer;
 use graph_reader::ReadAnswer;
+use graph_writer::MoveAnswer;
 use mapping::MappingAnswer;
 use search::SearchAnswer;
 use step_limit::LimitAnswer;
 ghost use mathlib.Core.Path.{_≡_};
 ghost use Rattle.answers.specs.Answer.{valueOf};
 ghost use Rattle.graph_reader.specs.Answers.{readAnswer};
+ghost use Rattle.graph_writer.specs.Answers.{moveAnswer};
 ghost use Rattle.mapping.specs.Answers.{mappingOutcome};
 ghost use Rattle.step_limit.specs.Answers.{limitAnswerOf};
 ghost use Rattle.clique.specs.Answers.{cliqueAnswerOf};
@@ -25,6 +27,16 @@ pub fn read_value(answer: ReadAnswer) -> u64
         ReadAnswer::Order(order) => order as u64,
         ReadAnswer::Tables => 0,
         ReadAnswer::Refused(_, at) => at as u64,
+    }
+}
+
+pub fn move_value(answer: MoveAnswer) -> u64
+    ensures { λ r. ⌜ r ≡ valueOf (moveAnswer answer) ⌝ }
+{
+    match answer {
+        MoveAnswer::Moved(count) => count as u64,
+        MoveAnswer::Refused(_, at) => at as u64,
+        MoveAnswer::TooShort => 0,
     }
 }
 

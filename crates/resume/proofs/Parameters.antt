@@ -25,7 +25,7 @@ use denote.Laws.{Is, Tells}
 use denote.Memory.{lone}
 use denote.Plain.{uint-vals, uint-tells, uint-lawful}
 use denote.Array.{Array, array-vals, array-tells, array-typed}
-use denote.Builtin.{u8, u64, usize}
+use denote.Builtin.{u8, u16, u64, usize}
 use denote.Ref.{RefT}
 use denote.Slice.{MutSlice, ShrSlice, slice-vals, shr-slice-tells, shr-slice-lawful}
 use denote.Steps.{nothing}
@@ -62,31 +62,31 @@ seventh t = t .1 .1 .1 .1 .1 .1 .0
 abbrev pub callOf : {X : Type 0} → List ℕ × (List (RefT (List ℕ)) × (List (RefT (List ℕ)) × (RefT (List ℕ) × (X × (ℕ × (RefT (List ℕ) × Unit {0})))))) → Checkpoint → Called
 callOf a c = searchCall (lent (a .0) (a .1 .0) (a .1 .1 .0) (fourth a .now)) c (sixth a) (seventh a .now)
 
--- two tables at one lifetime
-abbrev pub Tables : Lifetime → Lft → RattleType
-Tables ℓ κ = Array (ShrSlice ℓ κ u8) 2
+-- two tables at one lifetime, of labels or of edges
+abbrev pub Tables : RattleType → Lifetime → Lft → RattleType
+Tables N ℓ κ = Array (ShrSlice ℓ κ N) 2
 
 pub orders-tells : Tells (Array usize 2) (Is (Array usize 2)) (array-vals (uint-vals w64))
 orders-tells = array-tells usize (uint-vals w64) (uint-tells w64) 2
 
-pub tables-tells : (ℓ : Lifetime) (κ : Lft) → Tells (Tables ℓ κ) (Is (Tables ℓ κ)) (array-vals slice-vals)
-tables-tells ℓ κ = array-tells (ShrSlice ℓ κ u8) slice-vals (shr-slice-tells ℓ κ u8) 2
+pub tables-tells : (N : RattleType) (ℓ : Lifetime) (κ : Lft) → Tells (Tables N ℓ κ) (Is (Tables N ℓ κ)) (array-vals slice-vals)
+tables-tells N ℓ κ = array-tells (ShrSlice ℓ κ N) slice-vals (shr-slice-tells ℓ κ N) 2
 
 -- their types, and what all but the fifth own
 abbrev pub rows : Lfts 3 → RattleType → List RattleType
-rows κs R = Array usize 2 ∷ Tables (named 0) (κs .0) ∷ Tables (named 0) (κs .0) ∷ ShrSlice (named 1) (κs .1 .0) u8 ∷ R ∷ u64 ∷ MutSlice (named 2) (third κs) u64 ∷ []
+rows κs R = Array usize 2 ∷ Tables u16 (named 0) (κs .0) ∷ Tables u8 (named 0) (κs .0) ∷ ShrSlice (named 1) (κs .1 .0) u8 ∷ R ∷ u64 ∷ MutSlice (named 2) (third κs) u64 ∷ []
 
 abbrev pub others : (κs : Lfts 3) (R : RattleType) → Denots (rows κs R) → Valss (rows κs R) → Fml
 others κs R a vs =
-    fsep (Array usize 2 .own (a .0) (vs .0)) (fsep (Tables (named 0) (κs .0) .own (a .1 .0) (vs .1 .0)) (fsep (Tables (named 0) (κs .0) .own (a .1 .1 .0) (vs .1 .1 .0))
+    fsep (Array usize 2 .own (a .0) (vs .0)) (fsep (Tables u16 (named 0) (κs .0) .own (a .1 .0) (vs .1 .0)) (fsep (Tables u8 (named 0) (κs .0) .own (a .1 .1 .0) (vs .1 .1 .0))
     (fsep (ShrSlice (named 1) (κs .1 .0) u8 .own (fourth a) (fourth vs)) (owns (u64 ∷ MutSlice (named 2) (third κs) u64 ∷ []) (a .1 .1 .1 .1 .1) (vs .1 .1 .1 .1 .1)))))
 
 module _ {M : Type 1} (𝓤 : URA M) (H : Heap 𝓤) (A : Atoms 𝓤) (W : Given 𝓤 H A) where
   pub orders-typed : (xs : List ℕ) (v : Val) → Is (Array usize 2) xs (v ∷ []) → T (hasTy (tyArray (lone (usize .mir)) 2) v) × WT v
   orders-typed xs v is = array-typed usize (uint-lawful 𝓤 H A W w64 .typed) 2 xs (v ∷ []) is .0
 
-  pub tables-typed : (ℓ : Lifetime) (κ : Lft) (xs : List (RefT (List ℕ))) (v : Val) → Is (Tables ℓ κ) xs (v ∷ []) → T (hasTy (tyArray (lone (ShrSlice ℓ κ u8 .mir)) 2) v) × WT v
-  tables-typed ℓ κ xs v is = array-typed (ShrSlice ℓ κ u8) (shr-slice-lawful 𝓤 H A W ℓ κ u8 .typed) 2 xs (v ∷ []) is .0
+  pub tables-typed : (N : RattleType) (ℓ : Lifetime) (κ : Lft) (xs : List (RefT (List (N .Denot)))) (v : Val) → Is (Tables N ℓ κ) xs (v ∷ []) → T (hasTy (tyArray (lone (ShrSlice ℓ κ N .mir)) 2) v) × WT v
+  tables-typed N ℓ κ xs v is = array-typed (ShrSlice ℓ κ N) (shr-slice-lawful 𝓤 H A W ℓ κ N .typed) 2 xs (v ∷ []) is .0
 
   pub list-typed : (ℓ : Lifetime) (κ : Lft) (x : RefT (List ℕ)) (v : Val) → Is (ShrSlice ℓ κ u8) x (v ∷ []) → T (hasTy (lone (ShrSlice ℓ κ u8 .mir)) v) × WT v
   list-typed ℓ κ x v is = shr-slice-lawful 𝓤 H A W ℓ κ u8 .typed x (v ∷ []) is .0

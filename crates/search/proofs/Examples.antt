@@ -1,17 +1,21 @@
--- 01, "Marked examples to prove": all fourteen rows, three of 02, U1, with a list, and of 02, U4, with links of a part with itself, by the definitions that the
--- contracts cite. The walk and the readings are computed; the graphs and that they are sound are those of `MarkedGraphs`.
+-- 01, "Marked examples to prove": all fourteen rows, the files as old ones for the mover and restated in edition 2 (02, U6); three rows of 02, U1, with a list; and
+-- those of 02, U4, with links of a part with itself; by the definitions that the contracts cite. The walk and the readings are computed; the graphs and that they are sound are those of `MarkedGraphs`.
 use mathlib.Core.Path.{_≡_, refl, ap, _∙_}
 use mathlib.Core.Bool.{true, false}
 use mathlib.Core.List.{List, [], _∷_, _++_, append-nil}
 use mathlib.Core.Option.{Option, none, some}
-use Prim.Native.Nat.{ℕ, _<_, _^_}
+use Prim.Native.Nat.{ℕ, _-_, _<_, _^_}
 use native.Mathlib.Omega.{arith}
 use lib.Dec.{lit<}
-use lib.ListN.{set, replicate, length-replicate, drop-of-length-le}
+use lib.ListN.{length, set, replicate, length-replicate, drop-of-length-le}
 use Rattle.bounded.specs.Below.{allBelow, someBelow, sumBelow, runBelow}
 use Rattle.bounded.specs.First.{firstBelow}
-use Rattle.answers.specs.Answer.{accepted}
-use Rattle.graph_reader.specs.Reading.{reading, readFrom, judge, refuseAt}
+use Rattle.answers.specs.Answer.{accepted, refusedAt}
+use Rattle.answers.specs.Output.{Writing}
+use Rattle.graph_reader.specs.declared.Edition.the-variants.{One, Two}
+use Rattle.graph_reader.specs.Reading.{reading, readingEdition, readFile, opens, readAt, readFrom, judge, refuseAt}
+use Rattle.graph_writer.specs.Writing.{rowBytes, editionBytes}
+use Rattle.graph_writer.specs.Moving.{moving}
 use Rattle.substitutes.specs.Substitutes.{listed, agree}
 use Rattle.substitutes.specs.Soundness.{substitutesAnswer}
 use Rattle.problem.specs.Problem.{Problem, SoundProblem, allowed, consistent}
@@ -20,6 +24,8 @@ use Rattle.mapping.specs.Answers as outcome
 use Rattle.mapping.specs.Check.{rowFault, listOutcome}
 use Rattle.problem_reader.proofs.MarkedGraphs.{
   readTables,
+  old,
+  new,
   between,
   pair,
   empty,
@@ -55,6 +61,16 @@ workspace = replicate wordsNeeded 9
 
 abbrev call : Problem → ℕ → ℕ → Called
 call P minimum budget = searchCall P (freshCheckpoint minimum) budget workspace
+
+-- an old file moved to edition 2, into twenty bytes that hold 9: the answer, and the buffer afterwards
+abbrev moveUp : List ℕ → Writing
+moveUp bytes = moving One Two bytes (replicate 20 9)
+
+abbrev movedTo : List ℕ → Writing
+movedTo bytes = record { answer = accepted (length bytes); buffer = bytes ++ replicate (20 - length bytes) 9 }
+
+abbrev refusedMove : ℕ → ℕ → Writing
+refusedMove number at = record { answer = refusedAt number at; buffer = replicate 20 9 }
 
 -- budget 100 finishes the search: with so many steps, that incumbent and that ceiling, and all words 0
 abbrev Ends : Problem → ℕ → ℕ → Option (List ℕ) → ℕ → Type 0
@@ -120,25 +136,28 @@ pub marked-examples :
     × Ends (between one two) 0 4 (some (0 ∷ [])) 2
     -- 7, 9 linked by 1 against 7, 9 unlinked, floor 0: 0 255, 4 steps, fence 2
     × Ends (between linked unlinked) 0 4 (some (0 ∷ 255 ∷ [])) 2
-    -- bytes 0: empty chart
-    × (readTables (0 ∷ []) ≡ record { answer = accepted 0; labels = replicate 64 0; edges = replicate 4096 0 })
-    -- no bytes: 1 at 0
-    × (readTables [] ≡ refuseAt 1 0)
-    -- 1 7 2 0 1 1 0: 5 at 2
-    × (readTables (1 ∷ 7 ∷ 2 ∷ 0 ∷ 1 ∷ 1 ∷ 0 ∷ []) ≡ refuseAt 5 2)
-    -- 1 7 2 0 0 1 0: an accepted chart, since 02, U4
-    × (readTables (held 1) ≡ record { answer = accepted 1; labels = set (replicate 64 0) 0 7; edges = set (replicate 4096 0) 0 1 })
-    -- 7 against 9, list 7 9: 0 is good, 3 steps, fence 2
-    × ((listOutcome (listing (7 ∷ 9 ∷ [])) (0 ∷ []) ≡ outcome.accepted 1) × Ends (listing (7 ∷ 9 ∷ [])) 0 3 (some (0 ∷ [])) 2)
-    -- 7 against 9, list 9 7: 21 at row 0, and 255, 2 steps, fence 1: a pair is read old then new
-    × ((listOutcome (listing (9 ∷ 7 ∷ [])) (0 ∷ []) ≡ outcome.refusedRow 21 0) × Ends (listing (9 ∷ 7 ∷ [])) 0 2 (some (255 ∷ [])) 1)
-    -- 7 against 9, list 7 8 8 9: the same, since pairs make no chain
-    × ((listOutcome (listing (7 ∷ 8 ∷ 8 ∷ 9 ∷ [])) (0 ∷ []) ≡ outcome.refusedRow 21 0) × Ends (listing (7 ∷ 8 ∷ 8 ∷ 9 ∷ [])) 0 2 (some (255 ∷ [])) 1)
+    -- P's charts as old files, old 1 7 1 9 1 7 2 0 1 1 2 1 2 1 0 and new 1 9 1 7 2 0 1 1 0: moved, they are the files above
+    × ((moveUp (1 ∷ 7 ∷ 1 ∷ 9 ∷ 1 ∷ 7 ∷ 2 ∷ 0 ∷ 1 ∷ 1 ∷ 2 ∷ 1 ∷ 2 ∷ 1 ∷ 0 ∷ []) ≡ movedTo old) × (moveUp (1 ∷ 9 ∷ 1 ∷ 7 ∷ 2 ∷ 0 ∷ 1 ∷ 1 ∷ 0 ∷ []) ≡ movedTo new))
+    -- bytes 0: empty chart; as an old file it is moved to 4 2 0, which reads to that
+    × ((moveUp (0 ∷ []) ≡ movedTo (4 ∷ 2 ∷ 0 ∷ [])) × (readTables empty ≡ record { answer = accepted 0; labels = replicate 64 0; edges = replicate 4096 0 }))
+    -- no bytes: 1 at 0, in either edition
+    × ((moveUp [] ≡ refusedMove 1 0) × (readTables [] ≡ refuseAt 1 0))
+    -- 1 7 2 0 1 1 0: 5 at 2; in edition 2, 4 2 3 7 0 2 0 1 1 0: 5 at 5
+    × ((moveUp (1 ∷ 7 ∷ 2 ∷ 0 ∷ 1 ∷ 1 ∷ 0 ∷ []) ≡ refusedMove 5 2) × (readTables (4 ∷ 2 ∷ 3 ∷ 7 ∷ 0 ∷ 2 ∷ 0 ∷ 1 ∷ 1 ∷ 0 ∷ []) ≡ refuseAt 5 5))
+    -- 1 7 2 0 0 1 0: an accepted chart, since 02, U4; moved, it is 4 2 3 7 0 2 0 0 1 0, which reads to that
+    × ((moveUp (1 ∷ 7 ∷ 2 ∷ 0 ∷ 0 ∷ 1 ∷ 0 ∷ []) ≡ movedTo (held 1))
+    × (readTables (held 1) ≡ record { answer = accepted 1; labels = set (replicate 64 0) 0 7; edges = set (replicate 4096 0) 0 1 }))
+    -- 7 against 9, list 7 0 9 0: 0 is good, 3 steps, fence 2
+    × ((listOutcome (listing (7 ∷ 0 ∷ 9 ∷ 0 ∷ [])) (0 ∷ []) ≡ outcome.accepted 1) × Ends (listing (7 ∷ 0 ∷ 9 ∷ 0 ∷ [])) 0 3 (some (0 ∷ [])) 2)
+    -- 7 against 9, list 9 0 7 0: 21 at row 0, and 255, 2 steps, fence 1: a pair is read old then new
+    × ((listOutcome (listing (9 ∷ 0 ∷ 7 ∷ 0 ∷ [])) (0 ∷ []) ≡ outcome.refusedRow 21 0) × Ends (listing (9 ∷ 0 ∷ 7 ∷ 0 ∷ [])) 0 2 (some (255 ∷ [])) 1)
+    -- 7 against 9, list 7 0 8 0 8 0 9 0: the same, since pairs make no chain
+    × ((listOutcome (listing (7 ∷ 0 ∷ 8 ∷ 0 ∷ 8 ∷ 0 ∷ 9 ∷ 0 ∷ [])) (0 ∷ []) ≡ outcome.refusedRow 21 0) × Ends (listing (7 ∷ 0 ∷ 8 ∷ 0 ∷ 8 ∷ 0 ∷ 9 ∷ 0 ∷ [])) 0 2 (some (255 ∷ [])) 1)
     -- 7 linked with itself against 7 unlinked, floor 1: none, 1 step, fence 1; floor 0: 255, 2 steps, fence 1
     × (Ends (between (held 1) one) 1 1 none 1 × Ends (between (held 1) one) 0 2 (some (255 ∷ [])) 1)
     -- 7 7, all linked by 5, against 7 linked with itself by 5, floor 0: 0 255, 4 steps, fence 2; a part used on the path is no candidate, whatever links it has
     × Ends (between allFives (held 5)) 0 4 (some (0 ∷ 255 ∷ [])) 2
-unfolding reading readFrom judge allBelow someBelow sumBelow runBelow firstBelow listed agree substitutesAnswer rowFault listOutcome allowed consistent mappedFrom candidate candidates upperBound choices children choicesAfter laterSiblings openNodes visitPath visit after topBound ceiling checkpointOf
+unfolding reading readingEdition readFile opens readAt readFrom judge moving editionBytes rowBytes allBelow someBelow sumBelow runBelow firstBelow listed agree substitutesAnswer rowFault listOutcome allowed consistent mappedFrom candidate candidates upperBound choices children choicesAfter laterSiblings openNodes visitPath visit after topBound ceiling checkpointOf
 marked-examples = (
   ends pair pair-sound 1 6 (some (1 ∷ 0 ∷ 255 ∷ [])) 3 refl refl,
   (ap (incumbentIn pair) (checkpoint-at pair pair-sound 1 3 (lit< tt) _ refl), answers pair pair-sound 1 3 (lit< tt) 3 refl),
@@ -155,13 +174,14 @@ marked-examples = (
   ends (between empty empty) empty-sound 1 1 none 1 refl refl,
   ends (between one two) one-sound 0 4 (some (0 ∷ [])) 2 refl refl,
   ends (between linked unlinked) linked-sound 0 4 (some (0 ∷ 255 ∷ [])) 2 refl refl,
-  refl,
-  refl,
-  refl,
-  refl,
-  (refl, ends (listing (7 ∷ 9 ∷ [])) (listing-sound (7 ∷ 9 ∷ []) refl) 0 3 (some (0 ∷ [])) 2 refl refl),
-  (refl, ends (listing (9 ∷ 7 ∷ [])) (listing-sound (9 ∷ 7 ∷ []) refl) 0 2 (some (255 ∷ [])) 1 refl refl),
-  (refl, ends (listing (7 ∷ 8 ∷ 8 ∷ 9 ∷ [])) (listing-sound (7 ∷ 8 ∷ 8 ∷ 9 ∷ []) refl) 0 2 (some (255 ∷ [])) 1 refl refl),
+  (refl, refl),
+  (refl, refl),
+  (refl, refl),
+  (refl, refl),
+  (refl, refl),
+  (refl, ends (listing (7 ∷ 0 ∷ 9 ∷ 0 ∷ [])) (listing-sound (7 ∷ 0 ∷ 9 ∷ 0 ∷ []) refl) 0 3 (some (0 ∷ [])) 2 refl refl),
+  (refl, ends (listing (9 ∷ 0 ∷ 7 ∷ 0 ∷ [])) (listing-sound (9 ∷ 0 ∷ 7 ∷ 0 ∷ []) refl) 0 2 (some (255 ∷ [])) 1 refl refl),
+  (refl, ends (listing (7 ∷ 0 ∷ 8 ∷ 0 ∷ 8 ∷ 0 ∷ 9 ∷ 0 ∷ [])) (listing-sound (7 ∷ 0 ∷ 8 ∷ 0 ∷ 8 ∷ 0 ∷ 9 ∷ 0 ∷ []) refl) 0 2 (some (255 ∷ [])) 1 refl refl),
   (ends (between (held 1) one) held-sound 1 1 none 1 refl refl, ends (between (held 1) one) held-sound 0 2 (some (255 ∷ [])) 1 refl refl),
   ends (between allFives (held 5)) fives-sound 0 4 (some (0 ∷ 255 ∷ [])) 2 refl refl,
 )

@@ -1,5 +1,7 @@
 pub mod Examples
-pub mod ByLabel
+pub mod Filled
+pub mod Placed
+pub mod Having
 pub mod Spread
 pub mod SoundList
 pub mod Agreement

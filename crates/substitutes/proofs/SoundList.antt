@@ -18,13 +18,13 @@ use Rattle.substitutes.specs.Soundness.{lengthFits, pairSound, substitut
 
 -- The empty list is sound.
 pub none-sound : SoundSubstitutes []
-none-sound = record { even = refl; length-max = zero-le; labelled = λ k h. absurd (not-suc-le-zero h) }
+none-sound = record { whole-pairs = refl; length-max = zero-le; labelled = λ k h. absurd (not-suc-le-zero h) }
 
 -- A sound list passes.
 pub sound-list-passes : (list : List ℕ) → SoundSubstitutes list → substitutesAnswer list ≡ passed
 unfolding substitutesAnswer
 sound-list-passes list s =
-    simp (eq-eqb (length list % 2) 0 (s .even), le-leb (length list) 512 (s .length-max), true-allBelow (pairs list) (pairSound list) each)
+    simp (eq-eqb (length list % 4) 0 (s .whole-pairs), le-leb (length list) 1024 (s .length-max), true-allBelow (pairs list) (pairSound list) each)
   where
     each : (k : ℕ) → k < pairs list → pairSound list k ≡ true
     each k h =
@@ -40,8 +40,8 @@ pub passes-sound-list : (list : List ℕ) → substitutesAnswer list ≡ passed 
 unfolding substitutesAnswer
 passes-sound-list list e =
     let both = both-passed (lengthFits list) (allBelow (pairs list) (pairSound list)) e in
-    let fits = and-eq-true-iff (eqb (length list % 2) 0) (leb (length list) 512) .0 (both .0) in record {
-      even = eqb-true _ _ (fits .0);
+    let fits = and-eq-true-iff (eqb (length list % 4) 0) (leb (length list) 1024) .0 (both .0) in record {
+      whole-pairs = eqb-true _ _ (fits .0);
       length-max = leb-true _ _ (fits .1);
       labelled = λ k h.
           let sound = and-eq-true-iff (not (eqb (oldLabel list k) 0)) (not (eqb (newLabel list k) 0)) .0 (allBelow-true (pairs list) (pairSound list) (both .1) k h) in

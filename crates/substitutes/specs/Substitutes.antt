@@ -1,22 +1,28 @@
--- Which labels of vertices agree, by a lent list of substitutes: 02, U1, "A lent list gives pairs of one-byte kinds, old then new. Part kinds agree when they
--- are equal or the pair is listed".
+-- Which labels of vertices agree, by a lent list of substitutes: 02, U1, "A lent list gives pairs of .. kinds, old then new. Part kinds agree when they are
+-- equal or the pair is listed", and 02, U6, "each substitute pair takes four bytes, each kind low byte first".
 use mathlib.Core.Path.{_≡_}
 use mathlib.Core.Bool.{Bool, _&&_, _||_}
 use mathlib.Core.List.{List}
 use Prim.Native.Nat.{ℕ, _+_, _*_, _/_, _<_}
 use lib.Dec.{eqb}
-use lib.ListN.{length, getD}
+use lib.ListN.{length}
+use Rattle.little_endian.specs.LittleEndian.{twoBytesAt}
 use Rattle.bounded.specs.Below.{someBelow}
 
+-- "each substitute pair takes four bytes"
 abbrev pub pairs : List ℕ → ℕ
-pairs list = length list / 2
+pairs list = length list / 4
+
+-- "each kind low byte first"
+abbrev pub labelAt : List ℕ → ℕ → ℕ
+labelAt list at = twoBytesAt list at
 
 -- pair k: "old then new"
 abbrev pub oldLabel : List ℕ → ℕ → ℕ
-oldLabel list k = getD list (2 * k) 0
+oldLabel list k = labelAt list (4 * k)
 
 abbrev pub newLabel : List ℕ → ℕ → ℕ
-newLabel list k = getD list (2 * k + 1) 0
+newLabel list k = labelAt list (4 * k + 2)
 
 -- pair k is that of a and b
 abbrev pub pairIs : List ℕ → ℕ → ℕ → ℕ → Bool

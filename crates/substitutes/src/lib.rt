@@ -5,14 +5,19 @@ mod sets;
 use graph::Label;
 use graph::MAX_ORDER;
 ghost use mathlib.Core.Path.{_≡_};
+ghost use Prim.Native.Nat.{_+_, _<_};
+ghost use lib.ListN.{length};
 ghost use Rattle.bounded.specs.Below.{allBelow};
-ghost use Rattle.substitutes.specs.Substitutes.{pairs};
+ghost use Rattle.substitutes.specs.Substitutes.{pairs, labelAt};
 ghost use Rattle.substitutes.specs.Soundness.{pairSound, substitutesAnswer};
 ghost use Rattle.substitutes.specs.Agreeing.{Agreeing};
 ghost use Rattle.substitutes.specs.Answers.{substitutesAnswerOf};
 
+// The bytes of a pair: two of the old label, then two of the new.
+pub const PAIR_BYTES: usize = 4;
+
 // The greatest length of a list, in bytes.
-pub const MAX_BYTES: usize = 512;
+pub const MAX_BYTES: usize = 1024;
 
 // The answer of `check_substitutes`.
 pub enum SubstitutesAnswer {
@@ -21,17 +26,25 @@ pub enum SubstitutesAnswer {
     Labels,
 }
 
+// The label whose low byte is at `at`, before its high byte.
+fn label_at(list: &[u8], at: usize) -> Label
+    requires { ⌜ at + 1 < length (now list) ⌝ }
+    ensures { λ r. ⌜ r ≡ labelAt (now (list .entry)) at ⌝ }
+{
+    little_endian::join_two(list[at], list[at + 1])
+}
+
 // Whether no pair has a label 0.
 fn labels_sound(list: &[u8]) -> bool
     ensures { λ r. ⌜ r ≡ allBelow (pairs (now (list .entry))) (pairSound (now (list .entry))) ⌝ }
 {
-    let count = list.len() / 2;
+    let count = list.len() / PAIR_BYTES;
     let mut k = 0;
     while k < count {
-        if list[2 * k] == 0 {
+        if label_at(list, PAIR_BYTES * k) == 0 {
             return false;
         }
-        if list[2 * k + 1] == 0 {
+        if label_at(list, PAIR_BYTES * k + 2) == 0 {
             return false;
         }
         k += 1;
@@ -43,7 +56,7 @@ fn labels_sound(list: &[u8]) -> bool
 pub fn check_substitutes(list: &[u8]) -> SubstitutesAnswer
     ensures { λ r. ⌜ substitutesAnswerOf r ≡ substitutesAnswer (now (list .entry)) ⌝ }
 {
-    if list.len() % 2 != 0 {
+    if list.len() % PAIR_BYTES != 0 {
         return SubstitutesAnswer::Length;
     }
     if MAX_BYTES < list.len() {
@@ -59,6 +72,14 @@ pub fn check_substitutes(list: &[u8]) -> SubstitutesAnswer
 pub fn agreeing(old: &[Label], new: &[Label], list: &[u8]) -> [u64; MAX_ORDER]
     ensures { λ r. ⌜ Agreeing (now (old .entry)) (now (new .entry)) (now (list .entry)) r ⌝ }
 {
-    let sets = sets::joined(sets::places(new), list);
-    sets::spread(old, sets)
+    let new_low = sets::places(new, 1);
+    let new_high = sets::places(new, 256);
+    let equal = sets::equal(old, &new_low, &new_high);
+    if list.len() < PAIR_BYTES {
+        return equal;
+    }
+    let old_low = sets::places(old, 1);
+    let old_high = sets::places(old, 256);
+    let joined = sets::joined(list, &old_low, &old_high, &new_low, &new_high);
+    sets::spread(old, &old_low, &old_high, &joined, equal)
 }

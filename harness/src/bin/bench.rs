@@ -37,7 +37,7 @@ enum Shape {
     /// percent.
     Random {
         order: usize,
-        vertex_labels: u8,
+        vertex_labels: u16,
         edge_labels: u8,
         density: usize,
     },
@@ -45,13 +45,13 @@ enum Shape {
     /// among those whose walks are long.
     Panel {
         order: usize,
-        vertex_labels: u8,
+        vertex_labels: u16,
         holding: usize,
         seed: u64,
     },
     /// Two graphs of 64 vertices and all edges, with so many labels each and none in common: each
     /// label has one substitute.
-    Strangers { vertex_labels: u8 },
+    Strangers { vertex_labels: u16 },
 }
 
 const WALKS: [Shape; 14] = [
@@ -98,7 +98,7 @@ const LISTED_CALLS: [Shape; 5] = [
     strangers(64),
 ];
 
-const fn random(order: usize, vertex_labels: u8, edge_labels: u8, density: usize) -> Shape {
+const fn random(order: usize, vertex_labels: u16, edge_labels: u8, density: usize) -> Shape {
     Shape::Random {
         order,
         vertex_labels,
@@ -107,11 +107,11 @@ const fn random(order: usize, vertex_labels: u8, edge_labels: u8, density: usize
     }
 }
 
-const fn panel(order: usize, vertex_labels: u8, seed: u64) -> Shape {
+const fn panel(order: usize, vertex_labels: u16, seed: u64) -> Shape {
     holding_panel(order, vertex_labels, 0, seed)
 }
 
-const fn holding_panel(order: usize, vertex_labels: u8, holding: usize, seed: u64) -> Shape {
+const fn holding_panel(order: usize, vertex_labels: u16, holding: usize, seed: u64) -> Shape {
     Shape::Panel {
         order,
         vertex_labels,
@@ -120,7 +120,7 @@ const fn holding_panel(order: usize, vertex_labels: u8, holding: usize, seed: u6
     }
 }
 
-const fn strangers(vertex_labels: u8) -> Shape {
+const fn strangers(vertex_labels: u16) -> Shape {
     Shape::Strangers { vertex_labels }
 }
 
@@ -280,7 +280,7 @@ fn time_listed_calls(shape: &Shape) -> f64 {
     let empty = LibrarySearch::start(&problem).single_call_time();
 
     // the pairs before are about the old labels too, and let none agree
-    let before = (0..SUBSTITUTES_BYTES / 2 - last.len())
+    let before = (0..SUBSTITUTES_BYTES / 4 - last.len())
         .map(|number| [problem.old.label(number % MAX_VERTICES), UNUSED_LABEL]);
     problem.substitutes.pairs = before.chain(last).collect();
     let mut library = LibrarySearch::start(&problem);
@@ -339,15 +339,15 @@ impl Shape {
 }
 
 /// The first labels of strangers, and one that no graph here has.
-const OLD_LABEL: u8 = 1;
-const NEW_LABEL: u8 = 101;
-const UNUSED_LABEL: u8 = 255;
+const OLD_LABEL: u16 = 1;
+const NEW_LABEL: u16 = 101;
+const UNUSED_LABEL: u16 = 255;
 
 /// 64 vertices, whose labels go round from `first` on, and all edges.
-fn complete(first: u8, vertex_labels: u8) -> Graph {
+fn complete(first: u16, vertex_labels: u16) -> Graph {
     let mut graph = Graph::default();
     for vertex in 0..MAX_VERTICES {
-        let label = first + vertex as u8 % vertex_labels;
+        let label = first + vertex as u16 % vertex_labels;
         graph.add_vertex(label).unwrap();
         for earlier in 0..vertex {
             graph.add_edge(earlier, vertex, 1).unwrap();

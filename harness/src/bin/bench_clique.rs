@@ -17,7 +17,7 @@ const ALIKE: [usize; 4] = [8, 10, 12, 16];
 /// The same, foretold.
 const FORETOLD: [usize; 4] = [20, 24, 32, 64];
 /// New vertices of a panel, and its labels.
-const PANELS: [(usize, u8); 8] = [
+const PANELS: [(usize, u16); 8] = [
     (8, 4),
     (16, 6),
     (32, 8),
@@ -69,7 +69,7 @@ fn alike(order: usize) -> Problem {
     }
 }
 
-fn cut_panel(seed: u64, order: usize, labels: u8) -> Problem {
+fn cut_panel(seed: u64, order: usize, labels: u16) -> Problem {
     let mut problem = panels::problem(&mut Random::new(seed), order, labels, 0);
     problem.old = problem.old.first(CLIQUE_VERTICES);
     problem

@@ -8,7 +8,7 @@ use harness::random::Random;
 use harness::reference::{Graph, Problem, Substitutes};
 
 /// Orders of a panel and its copy, and its labels.
-const PANELS: [(usize, u8); 6] = [(8, 4), (12, 5), (16, 6), (24, 8), (40, 12), (64, 20)];
+const PANELS: [(usize, u16); 6] = [(8, 4), (12, 5), (16, 6), (24, 8), (40, 12), (64, 20)];
 /// Orders of two graphs whose vertices are all alike and unlinked.
 const ALIKE: [usize; 4] = [4, 8, 16, 64];
 const SEEDS: u64 = 20;

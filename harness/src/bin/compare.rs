@@ -131,33 +131,45 @@ fn second_of(first: u32, counts: &Counts) -> impl Iterator<Item = (u32, u64)> + 
     of_it.map(|(&(_, second), &times)| (second, times))
 }
 
-/// The faults of a list, and too many old vertices for clique branching. Each with what else may be
-/// wrong with such a call: nothing (0), something of a graph, which comes before it, or each of the
-/// faults that come before it or after it.
-const FAULTS: Wanted<3> = [
+/// The faults of a list, too many old vertices for clique branching, and labels that do not fit
+/// edition 1. Each with what else may be wrong with such a call: nothing (0), something of a graph,
+/// which comes before it, or each of the faults that come before it or after it. Of a graph that is
+/// moved back it comes after: such a label is judged at its command.
+const FAULTS: Wanted<4> = [
     (23, BESIDE_LIST),
     (24, BESIDE_LIST),
-    (25, &[0, 1, 2, 5, 9, 13, 23, 24]),
+    (25, &[0, 1, 2, 5, 9, 13, 23, 24, 27]),
+    (28, &[0, 1, 2, 4, 5, 9, 13]),
 ];
-const BESIDE_LIST: &[u32] = &[0, 1, 2, 5, 9, 13, 14, 15, 16, 17, 18, 19, 20, 21, 22, 25];
+const BESIDE_LIST: &[u32] = &[
+    0, 1, 2, 5, 9, 13, 14, 15, 16, 17, 18, 19, 20, 21, 22, 25, 27,
+];
+
+/// Kinds of comparison, and the numbers that have to come in each.
+const ANSWERS: [(&str, &[u32]); 4] = [
+    ("graph", &[0, 1, 2, 3, 4, 5, 7, 8, 9, 27]),
+    ("mover", &[0, 1, 2, 3, 4, 5, 7, 8, 9, 13, 27, 28]),
+    ("relisted", &[0, 14]),
+    ("rewired", &[0, 14]),
+];
 
 /// What a call is refused with for own edges alone: a checkpoint out of shape, a row of a mapping
 /// named twice. Each with what the call may answer without any own edges: nothing (0), or one of
 /// the faults that come after it.
 const OWN_EDGES: Wanted<2> = [(14, &[0, 16]), (22, &[0, 19, 20, 21, 22])];
 
-/// The faults that never came: each of these with each other one, and a search that goes on under
-/// another list or with other own edges, taken and refused.
+/// What never came: each of the faults with each other one, a refusal of graph bytes, and a search
+/// that goes on under another list or with other own edges, taken and refused.
 fn missing(judges: &[Judge]) -> Vec<String> {
     let never = never_came(FAULTS, faults(judges));
     let mut missing: Vec<String> = never.map(|(f, b)| format!("{f} with {b}")).collect();
     let never = never_came(OWN_EDGES, own_edges(judges));
     missing.extend(never.map(|(number, other)| format!("{number}, without own edges {other}")));
-    for name in ["relisted", "rewired"] {
+    for (name, numbers) in ANSWERS {
         let kind = KINDS.iter().position(|kind| kind.name == name);
         let answers = kind.map(|kind| &judges[kind].answers);
-        for number in [0, 14] {
-            if answers.is_none_or(|answers| !answers.contains_key(&number)) {
+        for number in numbers {
+            if answers.is_none_or(|answers| !answers.contains_key(number)) {
                 missing.push(format!("{name} with {number}"));
             }
         }

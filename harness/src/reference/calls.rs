@@ -1,8 +1,8 @@
-//! The seven functions of include/golfcedar.h: their answers, and what they leave in lent memory.
+//! The nine functions of include/golfcedar.h: their answers, and what they leave in lent memory.
 
 use super::{advance, capped_limit, ceiling, check, clique_branch};
 use super::{entries_from_bytes, entries_to_bytes, size};
-use super::{Checkpoint, Graph, Problem, Reason, Refusal};
+use super::{Checkpoint, Edition, Graph, Problem, Reason, Refusal};
 use crate::answer::Answer;
 
 pub const CHECKPOINT_BYTES: usize = 270;
@@ -100,6 +100,21 @@ pub fn clique(
 
 pub fn step_limit(new_order: u64, old_order: u64) -> Answer {
     answer(capped_limit(new_order, old_order).map(Answer::accepted))
+}
+
+pub fn to_edition_2(graph: &[u8], out: &mut [u8]) -> Answer {
+    move_to(Edition::Two, graph, out)
+}
+
+pub fn to_edition_1(graph: &[u8], out: &mut [u8]) -> Answer {
+    move_to(Edition::One, graph, out)
+}
+
+fn move_to(edition: Edition, graph: &[u8], out: &mut [u8]) -> Answer {
+    let moved = edition
+        .moved_here(graph)
+        .and_then(|bytes| fill(out, &bytes));
+    answer(moved.map(Answer::accepted))
 }
 
 fn may_advance(checkpoint: &Checkpoint, budget: u64, workspace: &[u64]) -> Result<(), Refusal> {

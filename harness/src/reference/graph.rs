@@ -1,41 +1,25 @@
-//! Graphs, and graph bytes read and judged (01, "Charts").
+//! Graphs (01, "Charts"), with labels of two bytes (02, U6).
 
-use super::{Reason, Refusal, Substitutes};
+use super::{Edition, Reason, Refusal, Substitutes};
 
 pub const MAX_VERTICES: usize = 64;
 
 #[derive(Clone, Debug, Default, PartialEq, Eq)]
 pub struct Graph {
-    labels: Vec<u8>,
+    labels: Vec<u16>,
     /// The label of the edge of a and b at `edges[a][b]` for b <= a; 0 for the null edge.
     edges: Vec<Vec<u8>>,
 }
 
 impl Graph {
+    /// Of edition 2, as all bytes but those of the mover.
     pub fn parse(bytes: &[u8]) -> Result<Graph, Refusal> {
-        let mut graph = Graph::default();
-        let mut place = 0;
-        loop {
-            let (judged, width) = match bytes[place..] {
-                [0] => return Ok(graph),
-                [0, ..] => return Err(Refusal::at(Reason::BytesAfterEnd, place + 1)),
-                [1, label, ..] => (graph.add_vertex(label), 2),
-                [2, a, b, label, ..] => (graph.add_edge(a.into(), b.into(), label), 4),
-                [] | [1 | 2, ..] => (Err(Reason::CutOff), 0),
-                _ => (Err(Reason::UnknownCommand), 0),
-            };
-            judged.map_err(|reason| Refusal::at(reason, place))?;
-            place += width;
-        }
+        Edition::Two.parse(bytes, u16::MAX)
     }
 
-    /// All vertices, then the edges with a <= b by rising a, then rising b, then the end.
+    /// In edition 2.
     pub fn save(&self) -> Vec<u8> {
-        let vertices = self.labels.iter().flat_map(|&label| [1, label]);
-        let edges = self
-            .edges()
-            .flat_map(|(a, b, label)| [2, a as u8, b as u8, label]);
-        vertices.chain(edges).chain([0]).collect()
+        Edition::Two.save(self)
     }
 
     /// The edges that are not null: a <= b and the label, by rising a, then rising b.
@@ -46,7 +30,7 @@ impl Graph {
             .filter(|&(_, _, label)| label != 0)
     }
 
-    pub fn add_vertex(&mut self, label: u8) -> Result<(), Reason> {
+    pub fn add_vertex(&mut self, label: u16) -> Result<(), Reason> {
         if label == 0 {
             return Err(Reason::VertexLabelZero);
         }
@@ -94,7 +78,7 @@ impl Graph {
         self.labels.len()
     }
 
-    pub fn label(&self, vertex: usize) -> u8 {
+    pub fn label(&self, vertex: usize) -> u16 {
         self.labels[vertex]
     }
 

@@ -1,33 +1,12 @@
--- `graph_reader::read_graph` meets its contract: tables of the right lengths are cleared, and the commands are read into them.
+-- `graph_reader::read_graph` meets its contract: it reads edition 2.
 -- Assumes nothing.
 use borrow.Author.Needs.{needs}
-use borrow.Author.Tests.{eq-eqb, ne-eqb}
-use mathlib.Core.Path.{ap, _∙_}
-use Prim.Native.Nat.{ℕ}
-use lib.ListN.{replicate}
 use Rattle.graph_reader.specs.Reading.{reading}
 use Rattle.graph_reader.proofs.read_graph.Statement.{statement}
 use Rattle.graph_reader.proofs.read_graph.Tie as tie
 
-returns : tie.Need-returns
-unfolding reading
-returns c = simp (ne-eqb _ _ (c .if1 .taken))
-
-returns-2 : tie.Need-returns-2
-unfolding reading
-returns-2 c = simp (eq-eqb _ _ (c .before .if1 .left), ne-eqb _ _ (c .if2 .taken))
-
-clear-requires : tie.Need-clear-requires
-clear-requires c κs = search needs
-
-clear-requires-2 : tie.Need-clear-requires-2
-clear-requires-2 c κs = search needs
-
-read-commands-requires : tie.Need-read-commands-requires
-read-commands-requires c κs = (
-  c .before .before .before .before .before .before .before .before .clear .ensures ∙ ap (λ (n : ℕ). replicate n 0) (c .before .before .before .before .before .before .before .before .before .before .before .if1 .left),
-  c .before .before .before .before .clear2 .ensures ∙ ap (λ (n : ℕ). replicate n 0) (c .before .before .before .before .before .before .before .before .before .before .if2 .left),
-)
+read-edition-requires : tie.Need-read-edition-requires
+read-edition-requires c κs = search needs
 
 same-length : tie.Need-same-length
 same-length c = search needs
@@ -35,20 +14,9 @@ same-length c = search needs
 same-length-2 : tie.Need-same-length-2
 same-length-2 c = search needs
 
-returns-3 : tie.Need-returns-3
+returns : tie.Need-returns
 unfolding reading
-returns-3 c =
-    simp (eq-eqb _ _ (c .before .before .before .before .before .before .before .before .before .before .before .before .before .before .before .before .if1 .left), eq-eqb _ _ (c .before .before .before .before .before .before .before .before .before .before .before .before .before .before .before .if2 .left)) (c .before .before .before .before .read-commands .ensures)
+returns c = c .before .before .before .before .read-edition .ensures
 
 pub read-graph-spec : {M : Type 1} → statement M
-read-graph-spec =
-    tie.close
-    (tie.spec
-    returns
-    returns-2
-    clear-requires
-    clear-requires-2
-    read-commands-requires
-    same-length
-    same-length-2
-    returns-3)
+read-graph-spec = tie.close (tie.spec read-edition-requires same-length same-length-2 returns)

@@ -16,6 +16,9 @@ abbrev μ-loop : tie.MeasureT-loop
 loop-holds : tie.Need-loop-holds Inv-loop μ-loop
 loop-holds c = search needs
 
+mul-labels : tie.Need-mul-labels Inv-loop μ-loop
+mul-labels c = search needs
+
 array-write-labels : tie.Need-array-write-labels Inv-loop μ-loop
 array-write-labels c = search needs
 
@@ -34,4 +37,4 @@ returns c = search needs
 pub labels-of-spec : {M : Type 1} → statement M
 labels-of-spec =
     tie.close
-    (tie.spec Inv-loop μ-loop loop-holds array-write-labels add-v loop-less loop-again returns)
+    (tie.spec Inv-loop μ-loop loop-holds mul-labels array-write-labels add-v loop-less loop-again returns)

@@ -1,4 +1,4 @@
--- `mapping_vectors::many_pairs` is safe: the 512 bytes that it lends are a part of the 514. Assumes nothing.
+-- `mapping_vectors::many_pairs` is safe: the 1024 bytes that it lends are a part of the 1028. Assumes nothing.
 use borrow.Author.Needs.{needs}
 use mathlib.Core.Path.{sym}
 use lib.Seq.{length-take-le}
@@ -18,7 +18,7 @@ array-share-prefix-bytes : tie.Need-array-share-prefix-bytes
 array-share-prefix-bytes c = search needs
 
 slice-aggregate-on-seven-and-nine-2 : tie.Need-slice-aggregate-on-seven-and-nine-2
-slice-aggregate-on-seven-and-nine-2 c = sym (length-take-le 512 (c .before .before .before .fill-pairs .last .0) (search needs))
+slice-aggregate-on-seven-and-nine-2 c = sym (length-take-le 1024 (c .before .before .before .fill-pairs .last .0) (search needs))
 
 slice-aggregate-on-seven-and-nine-3 : tie.Need-slice-aggregate-on-seven-and-nine-3
 slice-aggregate-on-seven-and-nine-3 c = search needs

@@ -28,7 +28,7 @@ use denote.Laws.{Is, Are, Ises, Spells, valss, shows}
 use denote.Memory.{mem}
 use denote.Plain.{uint-vals, uint-tells}
 use denote.Array.{array-vals}
-use denote.Builtin.{u8, u64}
+use denote.Builtin.{u8, u16, u64}
 use denote.Ref.{RefT, MutRef, ptr-vals}
 use denote.Slice.{finally, slice-vals, shr-slice-tells}
 use denote.Signature.{plain, typesAt}
@@ -119,11 +119,11 @@ module _ {M : Type 1} (𝓤 : URA M) (H : Heap 𝓤) (A : Atoms 𝓤) (W : Given
     walk are = via 𝓤 _ opening ∵
         qed W (held (c .now) (‵ (others (without-third κs) R a vals) ∷ [])) ∵ enter ! 𝓒 Λ code.function (flat (typesAt (resume.signature .params) κs) vals) _ $
         alloc1 ! (λ l₀. alloc1 ! (λ l₁. alloc1 ! (λ l₂. alloc1 ! (λ l₃. alloc1 ! (λ l₄. alloc1 ! (λ l₅. alloc1 ! (λ l₆. alloc1 ! (λ l₇. alloc1 ! (λ l₈. alloc1 ! (λ l₉. alloc1 ! (λ l₁₀. alloc1 ! (λ l₁₁. alloc1 ! (λ l₁₂. alloc1 ! (λ l₁₃. alloc0 ! $ params1 ! $
-        pass1 ! (init ! 24 refl (orders-typed 𝓤 H A W (a .0) _ (are .0))) $ pass1 ! (init ! 22 refl (tables-typed 𝓤 H A W (named 0) (κs .0) (a .1 .0) _ (are .1 .0))) $ pass1 ! (init ! 20 refl (tables-typed 𝓤 H A W (named 0) (κs .0) (a .1 .1 .0) _ (are .1 .1 .0))) $
+        pass1 ! (init ! 24 refl (orders-typed 𝓤 H A W (a .0) _ (are .0))) $ pass1 ! (init ! 22 refl (tables-typed 𝓤 H A W u16 (named 0) (κs .0) (a .1 .0) _ (are .1 .0))) $ pass1 ! (init ! 20 refl (tables-typed 𝓤 H A W u8 (named 0) (κs .0) (a .1 .1 .0) _ (are .1 .1 .0))) $
         pass1 ! (init ! 18 refl (list-typed 𝓤 H A W (named 1) (κs .1 .0) (fourth a) _ (fourth are))) $ pass1 ! (init ! 16 refl (tt, tt)) $ pass1 ! (init ! 14 refl (tt, record { fits = sixth are .1 })) $ pass1 ! (init ! 12 refl (tt, (tt, (record { fits = seventh are .0 .1 .0 }, tt)))) $ pass0 ! $
         -- [_13; …; _12; …; and so on to _1; …; room for _0; …; obs; the borrow; its token; the other tokens; what the other parameters own]
-        assigns ! (of-opd ! (load ! (from ! (stop !)) (look ! 22 refl))) (from ! (stop !)) (init ! 8 refl (tables-typed 𝓤 H A W erased (κs .0) (a .1 .0) _ (are .1 .0))) $
-        assigns ! (of-opd ! (load ! (from ! (stop !)) (look ! 20 refl))) (from ! (stop !)) (init ! 6 refl (tables-typed 𝓤 H A W erased (κs .0) (a .1 .1 .0) _ (are .1 .1 .0))) $
+        assigns ! (of-opd ! (load ! (from ! (stop !)) (look ! 22 refl))) (from ! (stop !)) (init ! 8 refl (tables-typed 𝓤 H A W u16 erased (κs .0) (a .1 .0) _ (are .1 .0))) $
+        assigns ! (of-opd ! (load ! (from ! (stop !)) (look ! 20 refl))) (from ! (stop !)) (init ! 6 refl (tables-typed 𝓤 H A W u8 erased (κs .0) (a .1 .1 .0) _ (are .1 .1 .0))) $
         move ! (28 ∷ 29 ∷ 30 ∷ []) $ opens ! tt C.the-row {h = c .now} (c .ptr .0) (c .ptr .1) (λ vs. spelt ! C.the-row (Is C.the-row) (shows 𝓤 H A C.the-row) (LL.vals C.the-type C′.the-laws) (LL.tells C.the-type C′.the-laws) fullShare (c .now) vs (c .ptr .0) (c .ptr .1) $
         move ! (1 ∷ []) $ peeks ! C.the-row (Is C.the-row) (shows 𝓤 H A C.the-row) (c .now) (checkpointVal (c .now) ∷ []) (λ is.
         -- [what the checkpoint owns; its cell; the open borrow; obs; auth; _13; …; the other tokens; what the other parameters own]
@@ -150,7 +150,7 @@ module _ {M : Type 1} (𝓤 : URA M) (H : Heap 𝓤) (A : Atoms 𝓤) (W : Given
 module _ {M : Type 1} (𝓤 : URA M) (H : Heap 𝓤) (A : Atoms 𝓤) (W : Given 𝓤 H A) (at-mem : Memory → SProp 𝓤) (run : Routine → Fun 𝓤) where
   resume-walks : (𝓒 : Calls 𝓤 H) (Λ : Loops 𝓤 H) → FmC 𝓤 H (W .laws) 𝓒 → Triple 𝓤 (𝓒 #search·search) (Search 𝓤 H A at-mem run) → Walks 𝓤 H A resume.ended stayed (WpFn 𝓤 H 𝓒 Λ code.function) (resume.clauses 𝓤 H A at-mem run)
   resume-walks 𝓒 Λ fm known = walked 𝓤 H A resume.ended stayed (resume.clauses 𝓤 H A at-mem run) (WpFn 𝓤 H 𝓒 Λ code.function) spells
-      (λ κs. (orders-tells, (tables-tells (named 0) (κs .0), (tables-tells (named 0) (κs .0), (shr-slice-tells (named 1) (κs .1 .0) u8, (λ x vs p. p .0, (uint-tells w64, (λ x vs p. p .0 .0, tt))))))))
+      (λ κs. (orders-tells, (tables-tells u16 (named 0) (κs .0), (tables-tells u8 (named 0) (κs .0), (shr-slice-tells (named 1) (κs .1 .0) u8, (λ x vs p. p .0, (uint-tells w64, (λ x vs p. p .0 .0, tt))))))))
       (λ κs qs bounds a g are. via 𝓤 _ (fst∗ 𝓤 _ (emp 𝓤)) (walk 𝓤 H A W at-mem run κs qs a 𝓒 Λ fm known are))
 
   resume-meets : (𝓣 : Tables 𝓤 H) → Triple 𝓤 (𝓣 .C #search·search) (Search 𝓤 H A at-mem run) → Meets 𝓤 H A resume.signature (WpFn 𝓤 H (𝓣 .C) (𝓣 .Λ) code.function) (resume.spec 𝓤 H A at-mem run)

@@ -29,7 +29,7 @@ use denote.Laws.{Is, Are, Ises, Spells, valss, shows}
 use denote.Memory.{mem, cellAt, partAt, partOf}
 use denote.Plain.{uint-vals, uint-tells}
 use denote.Array.{array-vals}
-use denote.Builtin.{u8, u64}
+use denote.Builtin.{u8, u16, u64}
 use denote.Ref.{RefT, MutRef}
 use denote.Lend.{LentRef, lends-ref, ref-back}
 use denote.Slice.{finally, slice-vals, shr-slice-tells}
@@ -153,7 +153,7 @@ module _ {M : Type 1} (𝓤 : URA M) (H : Heap 𝓤) (A : Atoms 𝓤) (W : Given
         qed W (raw (toks 𝓤 A 3 κs qs) ∷ ‵ (owns (rows κs u8) a vals) ∷ []) ∵ move ! (1 ∷ []) $ use1 W (‵ (fsep (u8 .own m (uint-vals w8 m)) (others κs u8 a vals))) (fifth-out 𝓤 H A W κs u8 a vals) $ fsplit ! $
         enter ! 𝓒 Λ code.function (flat (typesAt (start.signature .params) κs) vals) _ $
         alloc1 ! (λ l₀. alloc1 ! (λ l₁. alloc1 ! (λ l₂. alloc1 ! (λ l₃. alloc1 ! (λ l₄. alloc1 ! (λ l₅. alloc1 ! (λ l₆. alloc1 ! (λ l₇. alloc1 ! (λ l₈. alloc1 ! (λ l₉. alloc1 ! (λ l₁₀. alloc1 ! (λ l₁₁. alloc1 ! (λ l₁₂. alloc1 ! (λ l₁₃. alloc1 ! (λ l₁₄. alloc1 ! (λ l₁₅. alloc0 ! $ params1 ! $
-        pass1 ! (init ! 28 refl (orders-typed 𝓤 H A W (a .0) _ (are .0))) $ pass1 ! (init ! 26 refl (tables-typed 𝓤 H A W (named 0) (κs .0) (a .1 .0) _ (are .1 .0))) $ pass1 ! (init ! 24 refl (tables-typed 𝓤 H A W (named 0) (κs .0) (a .1 .1 .0) _ (are .1 .1 .0))) $
+        pass1 ! (init ! 28 refl (orders-typed 𝓤 H A W (a .0) _ (are .0))) $ pass1 ! (init ! 26 refl (tables-typed 𝓤 H A W u16 (named 0) (κs .0) (a .1 .0) _ (are .1 .0))) $ pass1 ! (init ! 24 refl (tables-typed 𝓤 H A W u8 (named 0) (κs .0) (a .1 .1 .0) _ (are .1 .1 .0))) $
         pass1 ! (init ! 22 refl (list-typed 𝓤 H A W (named 1) (κs .1 .0) (fourth a) _ (fourth are))) $
         pass1 ! (init ! 20 refl (tt, record { fits = fifth are .1 })) $ pass1 ! (init ! 18 refl (tt, record { fits = sixth are .1 })) $ pass1 ! (init ! 16 refl (tt, (tt, (record { fits = seventh are .0 .1 .0 }, tt)))) $ pass0 ! $
         -- [_15; …; _14; …; and so on to _1; …; room for _0; …; what the minimum owns; what the other parameters own; the tokens]
@@ -161,8 +161,8 @@ module _ {M : Type 1} (𝓤 : URA M) (H : Heap 𝓤) (A : Atoms 𝓤) (W : Given
         use1 W (later (some (λ (f : Checkpoint). (‵ ftrue ⊛ ‵ (C.the-row .own f (w₀ ∷ []))) ⊛ raw (ensured 𝓤 H A fresh.ended (fresh.clauses 𝓤 H A at-mem run) tt (m, tt) tt f)))) (id⊢ 𝓤 _) $ await ! tt $ pick ! (λ f.
         split ! $ move ! (1 ∷ []) $ use1 W (raw (fact 𝓤 (f ≡ freshCheckpoint m))) (fresh-of 𝓤 H A at-mem run m f) $ heard ! (f ≡ freshCheckpoint m) (λ e₀. split ! $ drop ! $ peeks ! C.the-row (Is C.the-row) (shows 𝓤 H A C.the-row) f (w₀ ∷ []) (λ is₀.
         land ! (from ! (stop !)) (init ! 11 refl (checkpoint-typed 𝓤 H A W f _ is₀)) $ assigns ! (of-opd ! (load ! (from ! (stop !)) (look ! 11 refl))) (from ! (stop !)) (init ! 15 refl (checkpoint-typed 𝓤 H A W f _ is₀)) $
-        assigns ! (of-opd ! (load ! (from ! (stop !)) (look ! 27 refl))) (from ! (stop !)) (init ! 9 refl (tables-typed 𝓤 H A W erased (κs .0) (a .1 .0) _ (are .1 .0))) $
-        assigns ! (of-opd ! (load ! (from ! (stop !)) (look ! 25 refl))) (from ! (stop !)) (init ! 7 refl (tables-typed 𝓤 H A W erased (κs .0) (a .1 .1 .0) _ (are .1 .1 .0))) $
+        assigns ! (of-opd ! (load ! (from ! (stop !)) (look ! 27 refl))) (from ! (stop !)) (init ! 9 refl (tables-typed 𝓤 H A W u16 erased (κs .0) (a .1 .0) _ (are .1 .0))) $
+        assigns ! (of-opd ! (load ! (from ! (stop !)) (look ! 25 refl))) (from ! (stop !)) (init ! 7 refl (tables-typed 𝓤 H A W u8 erased (κs .0) (a .1 .1 .0) _ (are .1 .1 .0))) $
         -- the local _8 is lent for a lifetime ν of the call
         lft-new ! tt (λ ν. move ! (16 ∷ 1 ∷ []) $ use2 W (later (some (λ (γ : GName). ‵ (R f l₈ ν γ .own (x f l₈ ν γ) (vptr l₈ 0 ∷ [])) ⊛ ‵ (flent (ν ∷ []) (Body (mem C.the-row) l₈ 0 γ))))) (lends 𝓤 H A W (ν ∷ []) l₈ f w₀) $ await ! tt $ pick ! (λ γ. split ! $
         -- [what the reference owns; the lender's part; the token of ν; _15; …; and so on to _9; …; …; _7; …; and so on to room for _0; …; what the other parameters own; the tokens]
@@ -193,7 +193,7 @@ module _ {M : Type 1} (𝓤 : URA M) (H : Heap 𝓤) (A : Atoms 𝓤) (W : Given
 module _ {M : Type 1} (𝓤 : URA M) (H : Heap 𝓤) (A : Atoms 𝓤) (W : Given 𝓤 H A) (at-mem : Memory → SProp 𝓤) (run : Routine → Fun 𝓤) where
   start-walks : (𝓒 : Calls 𝓤 H) (Λ : Loops 𝓤 H) → FmC 𝓤 H (W .laws) 𝓒 → Triple 𝓤 (𝓒 #checkpoint·fresh) (Fresh 𝓤 H A at-mem run) → Triple 𝓤 (𝓒 #resume·resume) (Resume 𝓤 H A at-mem run) → Walks 𝓤 H A start.ended stayed (WpFn 𝓤 H 𝓒 Λ code.function) (start.clauses 𝓤 H A at-mem run)
   start-walks 𝓒 Λ fm known-fresh known = walked 𝓤 H A start.ended stayed (start.clauses 𝓤 H A at-mem run) (WpFn 𝓤 H 𝓒 Λ code.function) spells
-      (λ κs. (orders-tells, (tables-tells (named 0) (κs .0), (tables-tells (named 0) (κs .0), (shr-slice-tells (named 1) (κs .1 .0) u8, (uint-tells w8, (uint-tells w64, (λ x vs p. p .0 .0, tt))))))))
+      (λ κs. (orders-tells, (tables-tells u16 (named 0) (κs .0), (tables-tells u8 (named 0) (κs .0), (shr-slice-tells (named 1) (κs .1 .0) u8, (uint-tells w8, (uint-tells w64, (λ x vs p. p .0 .0, tt))))))))
       (λ κs qs bounds a g are. via 𝓤 _ (fst∗ 𝓤 _ (emp 𝓤)) (walk 𝓤 H A W at-mem run κs qs a 𝓒 Λ fm known-fresh known are))
 
   start-meets : (𝓣 : Tables 𝓤 H) → Triple 𝓤 (𝓣 .C #checkpoint·fresh) (Fresh 𝓤 H A at-mem run) → Triple 𝓤 (𝓣 .C #resume·resume) (Resume 𝓤 H A at-mem run) → Meets 𝓤 H A start.signature (WpFn 𝓤 H (𝓣 .C) (𝓣 .Λ) code.function) (start.spec 𝓤 H A at-mem run)

@@ -1,14 +1,14 @@
 -- `substitutes::labels_sound` meets its contract: the pairs tested so far have passed.
 -- Assumes nothing.
-use borrow.Author.Needs.{needs}
 use borrow.Author.Tests.{eq-eqb, ne-eqb}
-use mathlib.Core.Path.{refl, sym}
+use mathlib.Core.Path.{refl, sym, _∙_}
 use mathlib.Core.Bool.{not, and-false}
 use Prim.Native.Nat.{_-_}
 use Rattle.bounded.proofs.AllBelow.{PassedTo, passed-none, passed-more, passed-all, false-allBelow}
 use lib.Dec.{eqb}
 use Rattle.substitutes.specs.Substitutes.{oldLabel}
 use Rattle.substitutes.specs.Soundness.{pairSound}
+use borrow.Author.Needs.{needs}
 use Rattle.substitutes.proofs.labels_sound.Statement.{statement}
 use Rattle.substitutes.proofs.labels_sound.Tie as tie
 
@@ -21,30 +21,32 @@ abbrev μ-loop : tie.MeasureT-loop
 loop-holds : tie.Need-loop-holds Inv-loop μ-loop
 loop-holds c = passed-none _ _
 
-mul-if1 : tie.Need-mul-if1 Inv-loop μ-loop
-mul-if1 c = search needs
+mul-label-at : tie.Need-mul-label-at Inv-loop μ-loop
+mul-label-at c = search needs
 
-shared-slice-read-if1 : tie.Need-shared-slice-read-if1 Inv-loop μ-loop
-shared-slice-read-if1 c = search needs
+label-at-requires : tie.Need-label-at-requires Inv-loop μ-loop
+label-at-requires c κs = search needs
 
 returns : tie.Need-returns Inv-loop μ-loop
 returns c =
     let turn = c .before .before in
-    sym (false-allBelow _ _ (turn .before .loop .k) (turn .loop-test .taken) (rw (eq-eqb _ _ (c .if1 .taken)) refl))
+    sym (false-allBelow _ _ (turn .before .loop .k) (turn .loop-test .taken) (rw (eq-eqb _ _ (sym (c .before .label-at .ensures) ∙ c .if1 .taken)) refl))
 
-mul-if2 : tie.Need-mul-if2 Inv-loop μ-loop
-mul-if2 c = search needs
+mul-label-at-2 : tie.Need-mul-label-at-2 Inv-loop μ-loop
+mul-label-at-2 c = search needs
 
-add-if2 : tie.Need-add-if2 Inv-loop μ-loop
-add-if2 c = search needs
+add-label-at : tie.Need-add-label-at Inv-loop μ-loop
+add-label-at c = search needs
 
-shared-slice-read-if2 : tie.Need-shared-slice-read-if2 Inv-loop μ-loop
-shared-slice-read-if2 c = search needs
+label-at-requires-2 : tie.Need-label-at-requires-2 Inv-loop μ-loop
+label-at-requires-2 c κs = search needs
 
 returns-2 : tie.Need-returns-2 Inv-loop μ-loop
 returns-2 c =
     let turn = c .before .before .before .before in
-    sym (false-allBelow _ _ (turn .before .loop .k) (turn .loop-test .taken) (rw (eq-eqb _ _ (c .if2 .taken)) (and-false (not (eqb (oldLabel (turn .before .before .args .list .now) (turn .before .loop .k)) 0)))))
+    sym (false-allBelow _ _ (turn .before .loop .k) (turn .loop-test .taken)
+    (rw (eq-eqb _ _ (sym (c .before .label-at2 .ensures) ∙ c .if2 .taken))
+    (and-false (not (eqb (oldLabel (turn .before .before .before .args .list .now) (turn .before .loop .k)) 0)))))
 
 add-k : tie.Need-add-k Inv-loop μ-loop
 add-k c = search needs
@@ -56,7 +58,11 @@ loop-again : tie.Need-loop-again Inv-loop μ-loop
 loop-again c =
     let first = c .before .before in
     let turn = first .before .before in
-    passed-more _ _ _ (turn .loop-test .taken) (turn .before .loop .inv) (rw (ne-eqb _ _ (first .if1 .left), ne-eqb _ _ (c .if2 .left)) refl)
+    passed-more _ _ _ (turn .loop-test .taken) (turn .before .loop .inv)
+    (rw (
+      ne-eqb _ _ (λ e. first .if1 .left (first .before .label-at .ensures ∙ e)),
+      ne-eqb _ _ (λ e. c .if2 .left (c .before .label-at2 .ensures ∙ e)),
+    ) refl)
 
 returns-3 : tie.Need-returns-3 Inv-loop μ-loop
 returns-3 c = sym (passed-all _ _ _ (c .loop-test .left) (c .before .loop .inv))
@@ -68,12 +74,12 @@ labels-sound-spec =
     Inv-loop
     μ-loop
     loop-holds
-    mul-if1
-    shared-slice-read-if1
+    mul-label-at
+    label-at-requires
     returns
-    mul-if2
-    add-if2
-    shared-slice-read-if2
+    mul-label-at-2
+    add-label-at
+    label-at-requires-2
     returns-2
     add-k
     loop-less

@@ -14,14 +14,14 @@ unfolding judge
 returns c =
     let a = c .before .args in
     let missing = le-leb (a .order) (max (a .a) (a .b)) (omega arith) in
-    λ labels. record { verdict = simp (missing); labels-after = simp (missing); edges-after = simp (missing) }
+    λ to labels. record { verdict = simp (missing); labels-after = simp (missing); edges-after = simp (missing) }
 
 returns-2 : tie.Need-returns-2
 unfolding judge
 returns-2 c =
     let a = c .before .before .args in
     let missing = le-leb (a .order) (max (a .a) (a .b)) (omega arith) in
-    λ labels. record { verdict = simp (missing); labels-after = simp (missing); edges-after = simp (missing) }
+    λ to labels. record { verdict = simp (missing); labels-after = simp (missing); edges-after = simp (missing) }
 
 returns-3 : tie.Need-returns-3
 unfolding judge
@@ -29,7 +29,7 @@ returns-3 c =
     let a = c .before .before .before .args in
     let given = lt-leb (a .order) (max (a .a) (a .b)) (omega arith) in
     let null = eq-eqb _ _ (c .if3 .taken) in
-    λ labels. record { verdict = simp (given, null); labels-after = simp (given, null); edges-after = simp (given, null) }
+    λ to labels. record { verdict = simp (given, null); labels-after = simp (given, null); edges-after = simp (given, null) }
 
 mul-if4 : tie.Need-mul-if4
 mul-if4 c = search needs
@@ -48,7 +48,7 @@ returns-4 c =
     let given = lt-leb (a .order) (max (a .a) (a .b)) (omega arith) in
     let some = ne-eqb _ _ (d .if3 .left) in
     let repeated = ne-eqb _ _ (c .if4 .taken) in
-    λ labels. record { verdict = simp (given, some, repeated); labels-after = simp (given, some, repeated); edges-after = simp (given, some, repeated) }
+    λ to labels. record { verdict = simp (given, some, repeated); labels-after = simp (given, some, repeated); edges-after = simp (given, some, repeated) }
 
 mul-edges : tie.Need-mul-edges
 mul-edges c = search needs
@@ -79,7 +79,7 @@ returns-5 c =
     let given = lt-leb (a .order) (max (a .a) (a .b)) (omega arith) in
     let some = ne-eqb _ _ (d .if3 .left) in
     let new = eq-eqb _ _ (c .if4 .left) in
-    λ labels. record { verdict = simp (given, some, new); labels-after = simp (given, some, new); edges-after = simp (given, some, new) }
+    λ to labels. record { verdict = simp (given, some, new); labels-after = simp (given, some, new); edges-after = simp (given, some, new) }
 
 pub add-edge-spec : {M : Type 1} → statement M
 add-edge-spec =

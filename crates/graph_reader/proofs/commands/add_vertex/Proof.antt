@@ -19,22 +19,49 @@ returns-2 c =
     let full = le-leb _ _ (c .if2 .taken) in
     λ edges. record { verdict = simp (some, full); labels-after = simp (some, full); edges-after = simp (some, full) }
 
-slice-write-labels : tie.Need-slice-write-labels
-slice-write-labels c = search needs
-
-add-t8 : tie.Need-add-t8
-add-t8 c = search needs
-
-same-length : tie.Need-same-length
-same-length c = search needs
+greatest-label-requires : tie.Need-greatest-label-requires
+greatest-label-requires c κs = search needs
 
 returns-3 : tie.Need-returns-3
 unfolding judge
 returns-3 c =
-    let some = ne-eqb _ _ (c .before .if1 .left) in
-    let room = lt-leb _ _ (c .if2 .left) in
-    λ edges. record { verdict = simp (some, room); labels-after = simp (some, room); edges-after = simp (some, room) }
+    let e = c .before .before in
+    let some = ne-eqb _ _ (e .before .if1 .left) in
+    let room = lt-leb _ _ (e .if2 .left) in
+    let wide = lt-leb _ _ (c .if3 .taken) in
+    λ edges. record { verdict = simp (← c .before .greatest-label .ensures, some, room, wide); labels-after = simp (← c .before .greatest-label .ensures, some, room, wide); edges-after = simp (← c .before .greatest-label .ensures, some, room, wide) }
+
+mul-labels : tie.Need-mul-labels
+mul-labels c = search needs
+
+slice-write-labels : tie.Need-slice-write-labels
+slice-write-labels c = search needs
+
+add-t10 : tie.Need-add-t10
+add-t10 c = search needs
+
+same-length : tie.Need-same-length
+same-length c = search needs
+
+returns-4 : tie.Need-returns-4
+unfolding judge
+returns-4 c =
+    let e = c .before .before in
+    let some = ne-eqb _ _ (e .before .if1 .left) in
+    let room = lt-leb _ _ (e .if2 .left) in
+    let fits = le-leb _ _ (c .if3 .left) in
+    λ edges. record { verdict = simp (← c .before .greatest-label .ensures, some, room, fits); labels-after = simp (← c .before .greatest-label .ensures, some, room, fits); edges-after = simp (← c .before .greatest-label .ensures, some, room, fits) }
 
 pub add-vertex-spec : {M : Type 1} → statement M
 add-vertex-spec =
-    tie.close (tie.spec returns returns-2 slice-write-labels add-t8 same-length returns-3)
+    tie.close
+    (tie.spec
+    returns
+    returns-2
+    greatest-label-requires
+    returns-3
+    mul-labels
+    slice-write-labels
+    add-t10
+    same-length
+    returns-4)

@@ -44,8 +44,9 @@ returns-2 : tie.Need-returns-2
 returns-2 c =
     let call = c .before .before in
     let told = call .before .before .before .command2 .given .1 in
+    let to = call .before .before .before .before .before .before .before .args .to in
     let labels = call .before .before .before .before .before .before .before .args .labels .now in
-    simp told (call .add-edge .ensures labels)
+    simp told (call .add-edge .ensures to labels)
 
 returns-3 : tie.Need-returns-3
 unfolding judge

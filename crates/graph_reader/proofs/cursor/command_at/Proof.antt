@@ -26,7 +26,7 @@ returns : tie.Need-returns
 returns c =
     let at = c .before .before .before .args .at in
     let bytes = c .before .before .before .args .bytes .now in
-    c .decode .ensures ∙ ap decode (take-all (length bytes - at) (drop at bytes) (le-of-eq (length-drop at bytes)))
+    c .decode .ensures ∙ ap (decode (c .before .before .before .args .edition)) (take-all (length bytes - at) (drop at bytes) (le-of-eq (length-drop at bytes)))
 
 pub command-at-spec : {M : Type 1} → statement M
 command-at-spec =

@@ -42,11 +42,13 @@ use Rattle.graph_reader.specs.Commands.{width}
 use Rattle.graph_reader.specs.Cursor.{placeAfter}
 use Rattle.graph_reader.specs.declared.cursor.Reader.{Reader}
 use Rattle.graph_reader.specs.declared.commands.Command.{Command}
+use Rattle.graph_reader.proofs.Edition as E
+use Rattle.graph_reader.proofs.Edition.Laws as E′
 use Rattle.graph_reader.proofs.cursor.Reader as T
 use Rattle.graph_reader.proofs.cursor.Reader.Laws as T′
 use Rattle.graph_reader.proofs.commands.Command as K
 use Rattle.graph_reader.proofs.commands.Command.Laws as K′
-use Rattle.graph_reader.proofs.MadeReader.{B, command-val, made}
+use Rattle.graph_reader.proofs.MadeReader.{reader-val, B, command-val, edition-val, is-edition, typed, made}
 use Rattle.graph_reader.proofs.cursor.place_after as place-after
 use Rattle.graph_reader.proofs.cursor.place_after.Symbol as place-after-def
 use Rattle.graph_reader.proofs.cursor.place_after.Symbol.{name as #cursor·place-after}
@@ -64,9 +66,9 @@ module _ {M : Type 1} (𝓤 : URA M) (H : Heap 𝓤) (A : Atoms 𝓤) (mem : Mem
   abbrev PlaceAfter : Contract 𝓤
   PlaceAfter = tripleOf 𝓤 H A place-after.signature (place-after.spec 𝓤 H A mem run)
 
-module _ {M : Type 1} (𝓤 : URA M) (H : Heap 𝓤) (A : Atoms 𝓤) (W : Given 𝓤 H A) (mem : Memory → SProp 𝓤) (run : Routine → Fun 𝓤) (κ : Lft) (q : Share) (d : Reader) (c : Command) (is-c : Is K.the-row c (command-val c ∷ [])) (room : d .at + width c < 2 ^ 64) where
+module _ {M : Type 1} (𝓤 : URA M) (H : Heap 𝓤) (A : Atoms 𝓤) (W : Given 𝓤 H A) (mem : Memory → SProp 𝓤) (run : Routine → Fun 𝓤) (κ : Lft) (q : Share) (d : Reader) (c : Command) (is-c : Is K.the-row c (command-val c ∷ [])) (room : d .at + width (d .edition) c < 2 ^ 64) where
   abbrev mach : Val
-  mach = T′.lowered d
+  mach = reader-val d
 
   abbrev at : Vals moved.signature (κ, tt)
   at = (mach ∷ [], (command-val c ∷ [], tt))
@@ -79,46 +81,48 @@ module _ {M : Type 1} (𝓤 : URA M) (H : Heap 𝓤) (A : Atoms 𝓤) (W : Given
 
   -- the call: what it is passed, what it asks, and what is known of its result
   abbrev passed : Vals place-after.signature tt
-  passed = (vint w64 (d .at) ∷ [], (command-val c ∷ [], tt))
+  passed = (vint w64 (d .at) ∷ [], (edition-val (d .edition) ∷ [], (command-val c ∷ [], tt)))
 
   abbrev to : PlaceAfter 𝓤 H A mem run .Ghost
-  to = ((tt, tt, tt, (d .at, (c, tt)), passed), tt)
+  to = ((tt, tt, tt, (d .at, (d .edition, (c, tt))), passed), tt)
 
-  asked : ent 𝓤 (⋆ 𝓤 H A (‵ ftrue ∷ ‵ (owns (usize ∷ K.the-row ∷ []) (d .at, (c, tt)) passed) ∷ [])) (PlaceAfter 𝓤 H A mem run .pre to)
-  asked = qed W (‵ ftrue ∷ ‵ (owns (usize ∷ K.the-row ∷ []) (d .at, (c, tt)) passed) ∷ []) ∵ says ! room $ frame ! $ done !
+  asked : ent 𝓤 (⋆ 𝓤 H A (‵ ftrue ∷ ‵ (owns (usize ∷ E.the-row ∷ K.the-row ∷ []) (d .at, (d .edition, (c, tt))) passed) ∷ [])) (PlaceAfter 𝓤 H A mem run .pre to)
+  asked = qed W (‵ ftrue ∷ ‵ (owns (usize ∷ E.the-row ∷ K.the-row ∷ []) (d .at, (d .edition, (c, tt))) passed) ∷ []) ∵ says ! room $ frame ! $ done !
 
-  said : (r : ℕ) → ent 𝓤 (ensured 𝓤 H A place-after.ended (place-after.clauses 𝓤 H A mem run) tt (d .at, (c, tt)) tt r) (fact 𝓤 (r ≡ placeAfter (d .at) c))
-  said r = exE 𝓤 _ (λ ws. snd∗ 𝓤 (sem 𝓤 H A (lasts place-after.ended tt (d .at, (c, tt)) ws)) (fact 𝓤 (r ≡ placeAfter (d .at) c)))
+  said : (r : ℕ) → ent 𝓤 (ensured 𝓤 H A place-after.ended (place-after.clauses 𝓤 H A mem run) tt (d .at, (d .edition, (c, tt))) tt r) (fact 𝓤 (r ≡ placeAfter (d .at) (d .edition) c))
+  said r = exE 𝓤 _ (λ ws. snd∗ 𝓤 (sem 𝓤 H A (lasts place-after.ended tt (d .at, (d .edition, (c, tt))) ws)) (fact 𝓤 (r ≡ placeAfter (d .at) (d .edition) c)))
 
-  exits : (r : ℕ) → r ≡ placeAfter (d .at) c → r < 2 ^ 64 → ent 𝓤 (onEntry 𝓤 H A moved.signature (κ, tt) (q, tt) (d, (c, tt)) at) (Post (T′.lowered (made (d .bytes) r)))
+  exits : (r : ℕ) → r ≡ placeAfter (d .at) (d .edition) c → r < 2 ^ 64 → ent 𝓤 (onEntry 𝓤 H A moved.signature (κ, tt) (q, tt) (d, (c, tt)) at) (Post (reader-val (made (d .bytes) r (d .edition))))
   exits r e r-fits =
       qed W ((‵ (flft κ q) ⊛ ‵ ftrue) ∷ ‵ (owns (B (κ, tt) ∷ K.the-row ∷ []) (d, (c, tt)) at) ∷ []) ∵
-      suffices ! _ (ends-at 𝓤 H A moved.ended stayed (moved.clauses 𝓤 H A mem run) W (((κ, tt), (q, tt), tt, (d, (c, tt)), at), tt) (T′.lowered (made (d .bytes) r)) (made (d .bytes) r) (tt, (tt, tt)) (tt, (tt, tt))) $ says ! (refl, e) $
+      suffices ! _ (ends-at 𝓤 H A moved.ended stayed (moved.clauses 𝓤 H A mem run) W (((κ, tt), (q, tt), tt, (d, (c, tt)), at), tt) (reader-val (made (d .bytes) r (d .edition))) (made (d .bytes) r (d .edition)) (tt, (tt, tt)) (tt, (tt, tt))) $ says ! (refl, e, refl) $
       frame ! $ fsplit ! $ use1 W (‵ Own ⊛ ‵ Own) (LL.copy (T.the-type (namedLft 1 0 tt (κ, tt))) (T′.the-copy (namedLft 1 0 tt (κ, tt))) 𝓤 H A W .twice d (mach ∷ [])) $ split ! $ move ! (0 ∷ 2 ∷ []) $ fjoin ! $ frame ! $
       -- [what the struct owns]: the new place's facts take the place of at's
-      owned ! usize (Is usize) (uint-makes 𝓤 H A W w64) r _ (refl, r-fits) $ move ! (1 ∷ 0 ∷ []) $ by ! (own-put 𝓤 H A W (T.the-type (namedLft 1 0 tt (κ, tt))) (T′.the-laws (namedLft 1 0 tt (κ, tt))) 1 (d .bytes, (d .at, tt)) r mach)
+      owned ! usize (Is usize) (uint-makes 𝓤 H A W w64) r _ (refl, r-fits) $ move ! (1 ∷ 0 ∷ []) $ by ! (own-put 𝓤 H A W (T.the-type (namedLft 1 0 tt (κ, tt))) (T′.the-laws (namedLft 1 0 tt (κ, tt))) 1 (d .bytes, (d .at, (d .edition, tt))) r mach)
 
   module _ (C : Calls 𝓤 H) (Λ : Loops 𝓤 H) (fm : FmC 𝓤 H (W .laws) C) (known : Triple 𝓤 (C #cursor·place-after) (PlaceAfter 𝓤 H A mem run)) where
     walk : Holds (hasTy (T′.mir (named 0)) mach) × WT mach → ent 𝓤 (onEntry 𝓤 H A moved.signature (κ, tt) (q, tt) (d, (c, tt)) at) (WpFn 𝓤 H C Λ code.function (mach ∷ command-val c ∷ []) Post)
     walk wt =
         qed W ((‵ (flft κ q) ⊛ ‵ ftrue) ∷ ‵ (owns (B (κ, tt) ∷ K.the-row ∷ []) (d, (c, tt)) at) ∷ []) ∵ enter ! C Λ code.function (mach ∷ command-val c ∷ []) _ $
-        alloc1 ! (λ l₀. alloc1 ! (λ l₁. alloc1 ! (λ l₂. alloc1 ! (λ l₃. alloc1 ! (λ l₄. alloc1 ! (λ l₅. alloc0 ! $ params1 ! $
-        pass1 ! (init ! 8 refl wt) $ pass1 ! (init ! 6 refl (EL.lawful K.the-type K′.the-laws 𝓤 H A W tt .typed c _ is-c .0)) $ pass0 ! $
-        -- [_5; …; _4; …; _3; …; _2; …; _1; …; room for _0; …; the token; what r and command own]
-        assigns ! (of-opd ! (load ! (from ! (fld ! refl (stop !))) (look-in ! 8 (sub ! 1 refl (whole !))))) (from ! (stop !)) (init ! 2 refl (tt, wt .1 .1 .0)) $
-        nothing ! $ owned ! K.the-row (Is K.the-row) (EL.makes K.the-type K′.the-plain 𝓤 H A) c _ is-c $ fjoin ! $ owned ! usize (Is usize) (uint-makes 𝓤 H A W w64) (d .at) _ (refl, wt .1 .1 .0 .fits) $ fjoin ! $ nothing ! $
+        alloc1 ! (λ l₀. alloc1 ! (λ l₁. alloc1 ! (λ l₂. alloc1 ! (λ l₃. alloc1 ! (λ l₄. alloc1 ! (λ l₅. alloc1 ! (λ l₆. alloc1 ! (λ l₇. alloc0 ! $ params1 ! $
+        pass1 ! (init ! 12 refl wt) $ pass1 ! (init ! 10 refl (EL.lawful K.the-type K′.the-laws 𝓤 H A W tt .typed c _ is-c .0)) $ pass0 ! $
+        -- [_7; …; _6; …; _5; …; _4; …; _3; …; _2; …; _1; …; room for _0; …; the token; what r and command own]
+        assigns ! (of-opd ! (load ! (from ! (fld ! refl (stop !))) (look-in ! 12 (sub ! 1 refl (whole !))))) (from ! (stop !)) (init ! 6 refl (tt, wt .1 .1 .0)) $
+        assigns ! (of-opd ! (load ! (from ! (fld ! refl (stop !))) (look-in ! 12 (sub ! 2 refl (whole !))))) (from ! (stop !)) (init ! 4 refl (EL.lawful E.the-type E′.the-laws 𝓤 H A W tt .typed (d .edition) _ (is-edition (d .edition)) .0)) $
+        nothing ! $ owned ! K.the-row (Is K.the-row) (EL.makes K.the-type K′.the-plain 𝓤 H A) c _ is-c $ fjoin ! $ owned ! E.the-row (Is E.the-row) (EL.makes E.the-type E′.the-plain 𝓤 H A) (d .edition) _ (is-edition (d .edition)) $ fjoin ! $ owned ! usize (Is usize) (uint-makes 𝓤 H A W w64) (d .at) _ (refl, wt .1 .1 .0 .fits) $ fjoin ! $ nothing ! $
         use2 W (raw (PlaceAfter 𝓤 H A mem run .pre to)) asked $
-        calls-at ! fm (PlaceAfter 𝓤 H A mem run) known to (and-then ! (load ! (from ! (stop !)) (look ! 3 refl)) (and-then ! (load ! (from ! (stop !)) (look ! 7 refl)) (no-more !))) (λ u.
-        use1 W (later (some (λ (r : ℕ). (‵ ftrue ⊛ ‵ (usize .own r (u ∷ []))) ⊛ raw (ensured 𝓤 H A place-after.ended (place-after.clauses 𝓤 H A mem run) tt (d .at, (c, tt)) tt r)))) (id⊢ 𝓤 _) $ await ! tt $ pick ! (λ r.
-        split ! $ move ! (1 ∷ []) $ use1 W (raw (fact 𝓤 (r ≡ placeAfter (d .at) c))) (said r) $ heard ! (r ≡ placeAfter (d .at) c) (λ e. split ! $ move ! (1 ∷ []) $
-        -- [the new place's facts; true; _5; …; _4; …; room for _3; …; _2; …; _1; …; room for _0; …; the token; what r and command own]
+        calls-at ! fm (PlaceAfter 𝓤 H A mem run) known to (and-then ! (load ! (from ! (stop !)) (look ! 7 refl)) (and-then ! (load ! (from ! (stop !)) (look ! 5 refl)) (and-then ! (load ! (from ! (stop !)) (look ! 11 refl)) (no-more !)))) (λ u.
+        use1 W (later (some (λ (r : ℕ). (‵ ftrue ⊛ ‵ (usize .own r (u ∷ []))) ⊛ raw (ensured 𝓤 H A place-after.ended (place-after.clauses 𝓤 H A mem run) tt (d .at, (d .edition, (c, tt))) tt r)))) (id⊢ 𝓤 _) $ await ! tt $ pick ! (λ r.
+        split ! $ move ! (1 ∷ []) $ use1 W (raw (fact 𝓤 (r ≡ placeAfter (d .at) (d .edition) c))) (said r) $ heard ! (r ≡ placeAfter (d .at) (d .edition) c) (λ e. split ! $ move ! (1 ∷ []) $
+        -- [the new place's facts; true; _7; …; _6; …; _5; …; _4; …; room for _3; …; _2; …; _1; …; room for _0; …; the token; what r and command own]
         peeks ! usize (Is usize) (shows 𝓤 H A usize) r (u ∷ []) (λ is.
-        land ! (from ! (stop !)) (init ! 6 refl (uint-lawful 𝓤 H A W w64 .typed r _ is .0)) $ rewrite ! 6 (λ (w : Val). ‵ (fat fullShare (tyInt w64) l₃ 0 w)) (ap only (is .0)) refl $
-        assigns ! (of-opd ! (load ! (from ! (fld ! refl (stop !))) (look-in ! 10 (sub ! 0 refl (whole !))))) (from ! (stop !)) (init ! 2 refl (tt, wt .1 .0)) $
-        assigns ! (agg ! (and-then ! (load ! (from ! (stop !)) (look ! 2 refl)) (and-then ! (load ! (from ! (stop !)) (look ! 6 refl)) (no-more !)))) (from ! (stop !)) (init ! 12 refl (tt, (wt .1 .0, (record { fits = is .1 }, tt)))) $
-        returns ! (look ! 12 refl) $ forget ! 2 refl $ forget ! 4 refl $ forget ! 6 refl $ forget ! 8 refl $ forget ! 10 refl $ forget ! 12 refl $
-        move ! (12 ∷ 13 ∷ []) $ free1 ! $ move ! (10 ∷ 11 ∷ []) $ free1 ! $ move ! (8 ∷ 9 ∷ []) $ free1 ! $ move ! (6 ∷ 7 ∷ []) $ free1 ! $ move ! (4 ∷ 5 ∷ []) $ free1 ! $ move ! (2 ∷ 3 ∷ []) $ free1 ! $ free0 ! $
-        keep ! (2 ∷ 3 ∷ []) $ by ! (exits r e (is .1))))))))))))
+        land ! (from ! (stop !)) (init ! 10 refl (uint-lawful 𝓤 H A W w64 .typed r _ is .0)) $ rewrite ! 10 (λ (w : Val). ‵ (fat fullShare (tyInt w64) l₃ 0 w)) (ap only (is .0)) refl $
+        assigns ! (of-opd ! (load ! (from ! (fld ! refl (stop !))) (look-in ! 14 (sub ! 0 refl (whole !))))) (from ! (stop !)) (init ! 4 refl (tt, wt .1 .0)) $
+        assigns ! (of-opd ! (load ! (from ! (fld ! refl (stop !))) (look-in ! 14 (sub ! 2 refl (whole !))))) (from ! (stop !)) (init ! 2 refl (EL.lawful E.the-type E′.the-laws 𝓤 H A W tt .typed (d .edition) _ (is-edition (d .edition)) .0)) $
+        assigns ! (agg ! (and-then ! (load ! (from ! (stop !)) (look ! 4 refl)) (and-then ! (load ! (from ! (stop !)) (look ! 10 refl)) (and-then ! (load ! (from ! (stop !)) (look ! 2 refl)) (no-more !))))) (from ! (stop !)) (init ! 16 refl (typed (d .bytes) r (d .edition), (wt .1 .0, (record { fits = is .1 }, (EL.lawful E.the-type E′.the-laws 𝓤 H A W tt .typed (d .edition) _ (is-edition (d .edition)) .0 .1, tt))))) $
+        returns ! (look ! 16 refl) $ forget ! 2 refl $ forget ! 4 refl $ forget ! 6 refl $ forget ! 8 refl $ forget ! 10 refl $ forget ! 12 refl $ forget ! 14 refl $ forget ! 16 refl $
+        move ! (16 ∷ 17 ∷ []) $ free1 ! $ move ! (14 ∷ 15 ∷ []) $ free1 ! $ move ! (12 ∷ 13 ∷ []) $ free1 ! $ move ! (10 ∷ 11 ∷ []) $ free1 ! $ move ! (8 ∷ 9 ∷ []) $ free1 ! $ move ! (6 ∷ 7 ∷ []) $ free1 ! $ move ! (4 ∷ 5 ∷ []) $ free1 ! $ move ! (2 ∷ 3 ∷ []) $ free1 ! $ free0 ! $
+        keep ! (2 ∷ 3 ∷ []) $ by ! (exits r e (is .1))))))))))))))
 
 module _ {M : Type 1} (𝓤 : URA M) (H : Heap 𝓤) (A : Atoms 𝓤) (W : Given 𝓤 H A) (mem : Memory → SProp 𝓤) (run : Routine → Fun 𝓤) where
   moved-walks : (C : Calls 𝓤 H) (Λ : Loops 𝓤 H) → FmC 𝓤 H (W .laws) C → Triple 𝓤 (C #cursor·place-after) (PlaceAfter 𝓤 H A mem run) → Walks 𝓤 H A moved.ended stayed (WpFn 𝓤 H C Λ code.function) (moved.clauses 𝓤 H A mem run)

@@ -9,11 +9,11 @@ use Rattle.graph_reader.specs.Answers.{faultNumber}
 use Rattle.graph_reader.proofs.reader.refuse.Statement.{statement}
 use Rattle.graph_reader.proofs.reader.refuse.Tie as tie
 
+clear-labels-requires : tie.Need-clear-labels-requires
+clear-labels-requires c κs = search needs
+
 clear-requires : tie.Need-clear-requires
 clear-requires c κs = search needs
-
-clear-requires-2 : tie.Need-clear-requires-2
-clear-requires-2 c κs = search needs
 
 same-length : tie.Need-same-length
 same-length c = search needs
@@ -28,10 +28,10 @@ returns c =
     let pre = first .before .before .before .before .pre in
     λ i. record {
       answer = refusedAt (faultNumber (first .before .before .before .before .args .fault)) (first .before .before .before .before .args .at);
-      labels = (first .clear .ensures ∙ ap (λ (n : ℕ). replicate n 0) (pre .0)) i;
-      edges = (second .clear2 .ensures ∙ ap (λ (n : ℕ). replicate n 0) (pre .1)) i;
+      labels = (first .clear-labels .ensures ∙ ap (λ (n : ℕ). replicate n 0) (pre .0)) i;
+      edges = (second .clear .ensures ∙ ap (λ (n : ℕ). replicate n 0) (pre .1)) i;
     }
 
 pub refuse-spec : {M : Type 1} → statement M
 refuse-spec =
-    tie.close (tie.spec clear-requires clear-requires-2 same-length same-length-2 returns)
+    tie.close (tie.spec clear-labels-requires clear-requires same-length same-length-2 returns)

@@ -1,4 +1,4 @@
--- `mapping_vectors::tables::fill_pairs` is safe and ends: both bytes of each of the 257 pairs lie within the 514. Assumes nothing.
+-- `mapping_vectors::tables::fill_pairs` is safe and ends: both bytes of each of the 257 pairs lie within the 1028. Assumes nothing.
 use borrow.Author.Needs.{needs}
 use mathlib.Core.Path.{_≡_}
 use Prim.Native.Nat.{_≤_, _-_}
@@ -8,7 +8,7 @@ use Rattle.mapping_vectors.proofs.tables.fill_pairs.Statement.{statemen
 use Rattle.mapping_vectors.proofs.tables.fill_pairs.Tie as tie
 
 abbrev Inv-loop : tie.InvT-loop
-Inv-loop bytes₀ k₀ bytes k = (k ≤ 257) × (length bytes ≡ 514)
+Inv-loop bytes₀ k₀ bytes k = (k ≤ 257) × (length bytes ≡ 1028)
 
 abbrev μ-loop : tie.MeasureT-loop
 μ-loop bytes₀ k₀ bytes k = 257 - k

@@ -29,6 +29,15 @@ add-at c = search needs
 shared-slice-read-own : tie.Need-shared-slice-read-own Inv-loop μ-loop
 shared-slice-read-own c = search needs
 
+-- a byte is no greater as a label
+cast-own : tie.Need-cast-own Inv-loop μ-loop
+cast-own c =
+    let v = c .before .before .before .loop .v in
+    omega (arith, c .shared-slice-known .given (place v v))
+
+mul-own : tie.Need-mul-own Inv-loop μ-loop
+mul-own c = search needs
+
 array-write-own : tie.Need-array-write-own Inv-loop μ-loop
 array-write-own c = search needs
 
@@ -66,6 +75,8 @@ diagonal-spec =
     mul-at
     add-at
     shared-slice-read-own
+    cast-own
+    mul-own
     array-write-own
     add-v
     loop-less

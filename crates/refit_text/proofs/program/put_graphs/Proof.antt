@@ -53,17 +53,17 @@ put-refusal-requires c κs = tt
 enum-known-read : tie.Need-enum-known-read
 enum-known-read c = search needs
 
-slice-aggregate-t28 : tie.Need-slice-aggregate-t28
-slice-aggregate-t28 c = search needs
+slice-aggregate-t29 : tie.Need-slice-aggregate-t29
+slice-aggregate-t29 c = search needs
 
-slice-aggregate-t30 : tie.Need-slice-aggregate-t30
-slice-aggregate-t30 c = search needs
+slice-aggregate-t31 : tie.Need-slice-aggregate-t31
+slice-aggregate-t31 c = search needs
 
-slice-aggregate-t33 : tie.Need-slice-aggregate-t33
-slice-aggregate-t33 c = search needs
+slice-aggregate-t34 : tie.Need-slice-aggregate-t34
+slice-aggregate-t34 c = search needs
 
-slice-aggregate-t35 : tie.Need-slice-aggregate-t35
-slice-aggregate-t35 c = search needs
+slice-aggregate-t36 : tie.Need-slice-aggregate-t36
+slice-aggregate-t36 c = search needs
 
 search-first-requires : tie.Need-search-first-requires
 search-first-requires c κs = tt
@@ -115,10 +115,10 @@ put-graphs-spec =
     problem-read-number-requires
     put-refusal-requires
     enum-known-read
-    slice-aggregate-t28
-    slice-aggregate-t30
-    slice-aggregate-t33
-    slice-aggregate-t35
+    slice-aggregate-t29
+    slice-aggregate-t31
+    slice-aggregate-t34
+    slice-aggregate-t36
     search-first-requires
     put-report-requires
     same-length

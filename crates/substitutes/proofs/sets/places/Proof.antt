@@ -1,46 +1,49 @@
--- `substitutes::sets::places` meets its contract: the places passed stand in the sets of their labels.
+-- `substitutes::sets::places` meets its contract: the places passed stand in the sets of their bytes.
 -- Assumes nothing.
-use borrow.Author.Needs.{needs}
-use Prim.Native.Nat.{_-_, _≤_, _<_}
+use Prim.Native.Nat.{_-_, _≤_}
 use native.Mathlib.Omega.{arith}
-use lib.ListN.{length, getD}
-use Rattle.substitutes.proofs.ByLabel.{ByLabel, placedTo, placed-none, placed-more, placed-all}
+use lib.ListN.{length}
+use Rattle.substitutes.proofs.Filled.{filled-none}
+use Rattle.substitutes.proofs.Placed.{PlacedTo, placed-more, placed-all}
+use borrow.Author.Needs.{needs}
 use Rattle.substitutes.proofs.sets.places.Statement.{statement}
 use Rattle.substitutes.proofs.sets.places.Tie as tie
 
 abbrev Inv-loop : tie.InvT-loop
-Inv-loop labels sets₀ w₀ sets w = (w ≤ length labels) × ByLabel (placedTo labels w) sets
+Inv-loop labels unit sets₀ w₀ sets w = (w ≤ length labels) × PlacedTo labels unit w sets
 
 abbrev μ-loop : tie.MeasureT-loop
-μ-loop labels sets₀ w₀ sets w = length labels - w
-
--- a label is a byte
-small : (c : tie.After-shared-slice-known2 Inv-loop μ-loop) → getD (c .before .before .before .before .args .labels .now) (c .before .before .loop .w) 0 < 256
-small c = omega (arith, c .shared-slice-known2 .given (c .before .before .loop .w))
+μ-loop labels unit sets₀ w₀ sets w = length labels - w
 
 loop-holds : tie.Need-loop-holds Inv-loop μ-loop
-loop-holds c = (search needs, placed-none (c .before .args .labels .now))
+loop-holds c = (search needs, filled-none _ _ _)
 
-shared-slice-read-label : tie.Need-shared-slice-read-label Inv-loop μ-loop
-shared-slice-read-label c = search needs
+mul-byte : tie.Need-mul-byte Inv-loop μ-loop
+mul-byte c = search needs
 
-cast-label : tie.Need-cast-label Inv-loop μ-loop
-cast-label c = omega (arith, small c)
+shared-slice-read-byte : tie.Need-shared-slice-read-byte Inv-loop μ-loop
+shared-slice-read-byte c = search needs
+
+div-byte : tie.Need-div-byte Inv-loop μ-loop
+div-byte c = search needs
+
+cast-byte : tie.Need-cast-byte Inv-loop μ-loop
+cast-byte c = search needs
 
 mul-with : tie.Need-mul-with Inv-loop μ-loop
-mul-with c = omega (arith, small c)
+mul-with c = search needs
 
 array-read-with : tie.Need-array-read-with Inv-loop μ-loop
-array-read-with c = omega (arith, small c)
+array-read-with c = search needs
 
 with-requires : tie.Need-with-requires Inv-loop μ-loop
 with-requires c κs = search needs
 
 mul-sets : tie.Need-mul-sets Inv-loop μ-loop
-mul-sets c = omega (arith, small (c .before))
+mul-sets c = search needs
 
 array-write-sets : tie.Need-array-write-sets Inv-loop μ-loop
-array-write-sets c = omega (arith, small (c .before))
+array-write-sets c = search needs
 
 add-w : tie.Need-add-w Inv-loop μ-loop
 add-w c = search needs
@@ -51,10 +54,13 @@ loop-less c = search needs
 loop-again : tie.Need-loop-again Inv-loop μ-loop
 loop-again c =
     let l = c .before .before .before .loop in
-    (search needs, placed-more (c .before .before .before .before .before .args .labels .now) (l .w) (l .inv .1) (small (c .before)) (c .with .ensures))
+    let a = c .before .before .before .before .before .args in
+    (search needs, placed-more (a .labels .now) (a .unit) (l .w) (l .inv .1) (c .with .ensures))
 
 returns : tie.Need-returns Inv-loop μ-loop
-returns c = placed-all (c .before .before .before .args .labels .now) (c .before .loop .w) (omega arith) (c .before .loop .inv .1)
+returns c =
+    let a = c .before .before .before .args in
+    placed-all (a .labels .now) (a .unit) (c .before .loop .w) (omega arith) (c .before .loop .inv .1)
 
 pub places-spec : {M : Type 1} → statement M
 places-spec =
@@ -63,8 +69,10 @@ places-spec =
     Inv-loop
     μ-loop
     loop-holds
-    shared-slice-read-label
-    cast-label
+    mul-byte
+    shared-slice-read-byte
+    div-byte
+    cast-byte
     mul-with
     array-read-with
     with-requires

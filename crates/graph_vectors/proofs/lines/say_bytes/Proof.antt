@@ -1,16 +1,16 @@
--- `graph_vectors::say_bytes` is safe: each index is below the length.
+-- `graph_vectors::lines::say_bytes` is safe: each index is below the length.
 -- Assumes nothing.
 use borrow.Author.Needs.{needs}
 use Prim.Native.Nat.{_≤_, _-_}
 use lib.ListN.{length}
-use Rattle.graph_vectors.proofs.say_bytes.Statement.{statement}
-use Rattle.graph_vectors.proofs.say_bytes.Tie as tie
+use Rattle.graph_vectors.proofs.lines.say_bytes.Statement.{statement}
+use Rattle.graph_vectors.proofs.lines.say_bytes.Tie as tie
 
 abbrev Inv-loop : tie.InvT-loop
-Inv-loop bytes i₀ i = i ≤ length bytes
+Inv-loop bytes count i₀ i = i ≤ length bytes
 
 abbrev μ-loop : tie.MeasureT-loop
-μ-loop bytes i₀ i = length bytes - i
+μ-loop bytes count i₀ i = length bytes - i
 
 loop-holds : tie.Need-loop-holds Inv-loop μ-loop
 loop-holds c = search needs
@@ -36,4 +36,13 @@ returns c = search needs
 pub say-bytes-spec : {M : Type 1} → statement M
 say-bytes-spec =
     tie.close
-    (tie.spec Inv-loop μ-loop loop-holds shared-slice-read-say-byte say-byte-requires add-i loop-less loop-again returns)
+    (tie.spec
+    Inv-loop
+    μ-loop
+    loop-holds
+    shared-slice-read-say-byte
+    say-byte-requires
+    add-i
+    loop-less
+    loop-again
+    returns)
