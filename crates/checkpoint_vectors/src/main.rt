@@ -255,25 +255,12 @@ fn put_identity(mark: u8, bytes: &mut [u8; 270], start: usize)
     }
 }
 
-// 64 vertices of label 1, and no edges.
-fn full_graph() -> [u8; 195]
-    ensures { λ r. ⌜ 195 ≡ length r ⌝ }
-{
-    let mut bytes = [0u8; 195];
-    bytes[0] = 4;
-    bytes[1] = 2;
-    let mut v = 0;
-    while v < 64 {
-        bytes[3 * v + 2] = 3;
-        bytes[3 * v + 3] = 1;
-        v += 1;
-    }
-    bytes
-}
-
-// Such a graph on each side: each vertex is mapped to its own number, on the path and in what is held.
+// 64 vertices of label 1 on each side, no edges, moved from a file of edition 1: each vertex is mapped to its own number, on the path and in what is held.
 fn full() {
-    let graph = full_graph();
+    let mut earlier = [1u8; 129];
+    earlier[128] = 0;
+    let mut graph = [0u8; 195];
+    graph_writer::to_edition_2(&earlier, &mut graph);
     let mut bytes = [0u8; 270];
     bytes[0] = 16;
     bytes[2] = 17;

@@ -71,9 +71,12 @@ fn on_sound(name: &[u8], old: &[u8], new: &[u8], list: &[u8]) {
     case(name, old, Harm::Sound, new, Harm::Sound, b"", list);
 }
 
-// 64 parts of kind 1 on each side, and no links.
+// 64 parts of kind 1 on each side, and no links, moved from a file of edition 1.
 fn on_full(name: &[u8], list: &[u8]) {
-    let bytes = tables::full_graph();
+    let mut earlier = [1u8; 129];
+    earlier[128] = 0;
+    let mut bytes = [0u8; 195];
+    graph_writer::to_edition_2(&earlier, &mut bytes);
     case(name, &bytes, Harm::Sound, &bytes, Harm::Sound, b"", list);
 }
 

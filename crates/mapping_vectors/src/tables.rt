@@ -93,19 +93,3 @@ pub fn fill_pairs(bytes: &mut [u8])
         k += 1;
     }
 }
-
-// 64 vertices of label 1, and no edges.
-pub fn full_graph() -> [u8; 195]
-    ensures { λ r. ⌜ 195 ≡ length r ⌝ }
-{
-    let mut bytes = [0u8; 195];
-    bytes[0] = 4;
-    bytes[1] = 2;
-    let mut v = 0;
-    while v < 64 {
-        bytes[3 * v + 2] = 3;
-        bytes[3 * v + 3] = 1;
-        v += 1;
-    }
-    bytes
-}
