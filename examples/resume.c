@@ -1,6 +1,6 @@
 /* A search that goes on from run to run, through a file.
  *
- *     resume [--substitute LABEL:LABEL]... OLD NEW CHECKPOINT BUDGET [MINIMUM]
+ *     resume [--connected] [--substitute LABEL:LABEL]... OLD NEW CHECKPOINT BUDGET [MINIMUM]
  *
  * OLD and NEW are graph files of edition 2. Without a file CHECKPOINT the search starts, for
  * mappings of at least MINIMUM vertices (0 to 255; 0 if not given), else it goes on from there;
@@ -9,20 +9,25 @@
  *
  *     cc -Iinclude examples/resume.c target/staticlib/libc_api.a -o resume
  *
+ * With `--connected` only mappings are looked for whose old vertices hang together by edges among
+ * themselves. Either every run gives it, or none does.
+ *
  * `--substitute 7:9` lets old vertices of label 7 be mapped to new ones of label 9 too; labels are
  * 1 to 65535, and at most 256 pairs may be given. Each run has to give the same ones, in the same
  * order.
  *
  * BUDGET, MINIMUM and each LABEL are decimal numbers without sign or leading zero. A MINIMUM is
  * refused if the search in the file started with another one, and a file is refused if it was saved
- * for other graphs or substitutes: a checkpoint alone does not tell of which it is, and a finished
- * one would give the answer for those. `refused NUMBER (VALUE)` is a refusal of
+ * for other graphs or substitutes, or for the other search: a checkpoint alone does not tell of which
+ * it is, and a finished one would give the answer for those. `refused NUMBER (VALUE)` is a refusal of
  * include/golfcedar.h. A run that is refused leaves the file as it was.
  *
  * The file has four parts: the bytes of the old graph, of the new graph, of the substitutes and of
  * the checkpoint, each after its length, which takes two bytes, the lower first. The first three
  * stand there whole, so that nothing rests on a digest; they count as the same if their bytes are.
- * examples/resume.rs reads and writes the same file.
+ * With `--connected` there is a part more before the checkpoint, which is the byte 1: no checkpoint
+ * is that, so a file of four parts is one without `--connected`. examples/resume.rs reads and
+ * writes the same file.
  *
  * A file from before edition 2 has graphs of edition 1 and substitutes of one byte a label. It is
  * read as if it were saved for the moved graphs, and for the same labels in two bytes each: so it
@@ -39,7 +44,7 @@
 
 #define SAVED_BYTES                                                                                \
     (2 + GOLFCEDAR_GRAPH_BYTES + 2 + GOLFCEDAR_GRAPH_BYTES + 2 + GOLFCEDAR_SUBSTITUTES_BYTES +     \
-     2 + GOLFCEDAR_CHECKPOINT_BYTES)
+     2 + 1 + 2 + GOLFCEDAR_CHECKPOINT_BYTES)
 
 /* Room for every file that can be accepted, and a byte more by which a longer one is refused. */
 struct bytes {
@@ -49,6 +54,7 @@ struct bytes {
 
 struct search {
     struct bytes old, new, substitutes, checkpoint;
+    uint32_t connected;
     const char *file;
 };
 
@@ -162,6 +168,9 @@ static void put_part(struct bytes *saved, const struct bytes *part)
     saved->length += 2 + part->length;
 }
 
+/* The part of a file of the connected search that stands before the checkpoint. */
+static const struct bytes connected_part = {{1}, 1};
+
 static int same(const struct bytes *one, const struct bytes *other)
 {
     return one->length == other->length && memcmp(one->at, other->at, one->length) == 0;
@@ -198,9 +207,10 @@ static int widen(struct bytes *substitutes)
  * sound. They are from then if the graphs are. No list of that time ends as a checkpoint does, with
  * a 0: so a file that is cut off after the list is not taken for one of three parts. */
 static int take_parts(const struct bytes *saved, struct bytes *old, struct bytes *new,
-                      struct bytes *substitutes, struct bytes *checkpoint)
+                      struct bytes *substitutes, uint32_t *connected, struct bytes *checkpoint)
 {
     size_t place = 0;
+    *connected = 0;
     if (!take_part(saved, &place, old) || !take_part(saved, &place, new) ||
         !take_part(saved, &place, substitutes))
         return 0;
@@ -212,6 +222,11 @@ static int take_parts(const struct bytes *saved, struct bytes *old, struct bytes
     } else if (!take_part(saved, &place, checkpoint)) {
         return 0;
     }
+    if (!earlier && same(checkpoint, &connected_part)) {
+        *connected = 1;
+        if (!take_part(saved, &place, checkpoint))
+            return 0;
+    }
     if (place != saved->length)
         return 0;
     return !earlier || (move_up(old) && move_up(new) && widen(substitutes));
@@ -221,9 +236,10 @@ static int take_parts(const struct bytes *saved, struct bytes *old, struct bytes
 static int load_checkpoint(struct search *search)
 {
     static struct bytes saved, old, new, substitutes;
+    uint32_t connected;
     if (!load("checkpoint", search->file, &saved))
         return 0;
-    if (!take_parts(&saved, &old, &new, &substitutes, &search->checkpoint))
+    if (!take_parts(&saved, &old, &new, &substitutes, &connected, &search->checkpoint))
         fail("checkpoint", search->file, "damaged, or not a file of this program");
     if (!same(&old, &search->old))
         fail("checkpoint", search->file, "saved for another old graph: name another file");
@@ -231,6 +247,10 @@ static int load_checkpoint(struct search *search)
         fail("checkpoint", search->file, "saved for another new graph: name another file");
     if (!same(&substitutes, &search->substitutes))
         fail("checkpoint", search->file, "saved for other substitutes: name another file");
+    if (connected != search->connected)
+        fail("checkpoint", search->file,
+             connected ? "saved with --connected: name another file"
+                       : "saved without --connected: name another file");
     return 1;
 }
 
@@ -242,6 +262,8 @@ static void save_checkpoint(const struct search *search)
     put_part(&saved, &search->old);
     put_part(&saved, &search->new);
     put_part(&saved, &search->substitutes);
+    if (search->connected)
+        put_part(&saved, &connected_part);
     put_part(&saved, &search->checkpoint);
     char second[4096];
     int length = snprintf(second, sizeof second, "%s.saving", search->file);
@@ -262,8 +284,8 @@ static void start(struct search *search, uint8_t minimum)
     struct bytes *checkpoint = &search->checkpoint;
     uint64_t value;
     uint32_t number = golfcedar_start(old->at, old->length, new->at, new->length, substitutes->at,
-                                      substitutes->length, minimum, checkpoint->at,
-                                      sizeof checkpoint->at, &value);
+                                      substitutes->length, search->connected, minimum,
+                                      checkpoint->at, sizeof checkpoint->at, &value);
     accept_or_exit("checkpoint", search->file, number, value);
     checkpoint->length = value;
 }
@@ -276,9 +298,10 @@ static void resume(struct search *search, uint64_t budget)
     const struct bytes *substitutes = &search->substitutes, *checkpoint = &search->checkpoint;
     uint64_t value, ceiling;
     uint32_t number = golfcedar_resume(old->at, old->length, new->at, new->length, substitutes->at,
-                                       substitutes->length, checkpoint->at, checkpoint->length,
-                                       budget, workspace, GOLFCEDAR_WORKSPACE_WORDS, next.at,
-                                       sizeof next.at, &value, &ceiling);
+                                       substitutes->length, search->connected, checkpoint->at,
+                                       checkpoint->length, budget, workspace,
+                                       GOLFCEDAR_WORKSPACE_WORDS, next.at, sizeof next.at, &value,
+                                       &ceiling);
     accept_or_exit("checkpoint", search->file, number, value);
     next.length = value;
     search->checkpoint = next;
@@ -290,10 +313,10 @@ static struct reading read_out(const struct search *search)
     const struct bytes *substitutes = &search->substitutes, *checkpoint = &search->checkpoint;
     struct reading reading;
     uint32_t number = golfcedar_read_out(old->at, old->length, new->at, new->length,
-                                         substitutes->at, substitutes->length, checkpoint->at,
-                                         checkpoint->length, reading.mapping,
-                                         sizeof reading.mapping, &reading.state, &reading.steps,
-                                         &reading.size, &reading.ceiling);
+                                         substitutes->at, substitutes->length,
+                                         search->connected, checkpoint->at, checkpoint->length,
+                                         reading.mapping, sizeof reading.mapping, &reading.state,
+                                         &reading.steps, &reading.size, &reading.ceiling);
     accept_or_exit("checkpoint", search->file, number, reading.state);
     return reading;
 }
@@ -342,11 +365,20 @@ static void print(const struct search *search)
 int main(int count, char **arguments)
 {
     static struct search search;
-    for (; count > 2 && strcmp(arguments[1], "--substitute") == 0; count -= 2, arguments += 2)
-        add_substitute_or_exit(&search.substitutes, arguments[2]);
+    for (;;) {
+        if (count > 1 && strcmp(arguments[1], "--connected") == 0) {
+            search.connected = 1;
+            count -= 1, arguments += 1;
+        } else if (count > 2 && strcmp(arguments[1], "--substitute") == 0) {
+            add_substitute_or_exit(&search.substitutes, arguments[2]);
+            count -= 2, arguments += 2;
+        } else {
+            break;
+        }
+    }
     if (count != 5 && count != 6)
         fail("resume", "needs",
-             "[--substitute LABEL:LABEL]... OLD NEW CHECKPOINT BUDGET [MINIMUM]");
+             "[--connected] [--substitute LABEL:LABEL]... OLD NEW CHECKPOINT BUDGET [MINIMUM]");
     uint64_t budget = number_or_exit("budget", arguments[4], UINT64_MAX);
     uint64_t minimum = count == 6 ? number_or_exit("minimum", arguments[5], UINT8_MAX) : 0;
     load_graph("old graph", arguments[1], &search.old);

@@ -1,11 +1,14 @@
 //! A search that goes on from run to run, through a file.
 //!
-//!     resume [--substitute LABEL:LABEL]... OLD NEW CHECKPOINT BUDGET [MINIMUM]
+//!     resume [--connected] [--substitute LABEL:LABEL]... OLD NEW CHECKPOINT BUDGET [MINIMUM]
 //!
 //! OLD and NEW are graph files of edition 2. Without a file CHECKPOINT the search starts, for
 //! mappings of at least MINIMUM vertices (0 to 255; 0 if not given), else it goes on from there;
 //! either way for BUDGET visits. The file is saved, and what the search says so far is printed.
 //! Build it in `harness/` with `cargo build --bin resume`.
+//!
+//! With `--connected` only mappings are looked for whose old vertices hang together by edges among
+//! themselves. Either every run gives it, or none does.
 //!
 //! `--substitute 7:9` lets old vertices of label 7 be mapped to new ones of label 9 too; labels are
 //! 1 to 65535, and at most 256 pairs may be given. Each run has to give the same ones, in the same
@@ -13,14 +16,16 @@
 //!
 //! BUDGET, MINIMUM and each LABEL are decimal numbers without sign or leading zero. A MINIMUM is
 //! refused if the search in the file started with another one, and a file is refused if it was
-//! saved for other graphs or substitutes: a checkpoint alone does not tell of which it is, and a
-//! finished one would give the answer for those. `refused NUMBER (VALUE)` is a refusal of
-//! include/golfcedar.h. A run that is refused leaves the file as it was.
+//! saved for other graphs or substitutes, or for the other search: a checkpoint alone does not tell
+//! of which it is, and a finished one would give the answer for those. `refused NUMBER (VALUE)` is a
+//! refusal of include/golfcedar.h. A run that is refused leaves the file as it was.
 //!
 //! The file has four parts: the bytes of the old graph, of the new graph, of the substitutes and of
 //! the checkpoint, each after its length, which takes two bytes, the lower first. The first three
 //! stand there whole, so that nothing rests on a digest; they count as the same if their bytes are.
-//! examples/resume.c reads and writes the same file.
+//! With `--connected` there is a part more before the checkpoint, which is the byte 1: no checkpoint
+//! is that, so a file of four parts is one without `--connected`. examples/resume.c reads and
+//! writes the same file.
 //!
 //! A file from before edition 2 has graphs of edition 1 and substitutes of one byte a label. It is
 //! read as if it were saved for the moved graphs, and for the same labels in two bytes each: so it
@@ -35,11 +40,16 @@ use std::process::ExitCode;
 use std::str::FromStr;
 
 use harness::answer::Answer;
-use harness::library::{self, CHECKPOINT_BYTES, GRAPH_BYTES, MAX_VERTICES, NO_SUBSTITUTES};
-use harness::library::{SUBSTITUTES_BYTES, UNMAPPED, WORKSPACE_WORDS};
+use harness::library::{self, CHECKPOINT_BYTES, CONNECTED_SEARCH, FIRST_SEARCH, GRAPH_BYTES};
+use harness::library::{
+    MAX_VERTICES, NO_SUBSTITUTES, SUBSTITUTES_BYTES, UNMAPPED, WORKSPACE_WORDS,
+};
 
-const USAGE: &str =
-    "resume needs: [--substitute LABEL:LABEL]... OLD NEW CHECKPOINT BUDGET [MINIMUM]";
+const USAGE: &str = "resume needs: [--connected] [--substitute LABEL:LABEL]... \
+    OLD NEW CHECKPOINT BUDGET [MINIMUM]";
+
+/// The part of a file of the connected search that stands before the checkpoint.
+const CONNECTED_PART: &[u8] = &[1];
 
 fn main() -> ExitCode {
     let arguments: Vec<String> = env::args().skip(1).collect();
@@ -53,13 +63,20 @@ fn main() -> ExitCode {
 }
 
 fn run(mut arguments: &[String]) -> Result<(), String> {
+    let mut connected = FIRST_SEARCH;
     let mut substitutes = Vec::new();
-    while let [option, word, rest @ ..] = arguments {
-        if option != "--substitute" {
-            break;
-        }
-        add_substitute(&mut substitutes, word)?;
-        arguments = rest;
+    loop {
+        arguments = match arguments {
+            [option, rest @ ..] if option == "--connected" => {
+                connected = CONNECTED_SEARCH;
+                rest
+            }
+            [option, word, rest @ ..] if option == "--substitute" => {
+                add_substitute(&mut substitutes, word)?;
+                rest
+            }
+            _ => break,
+        };
     }
     let (old, new, file, budget, minimum) = match arguments {
         [old, new, file, budget] => (old, new, file, budget, None),
@@ -75,6 +92,7 @@ fn run(mut arguments: &[String]) -> Result<(), String> {
         old: load_graph("old graph", old)?,
         new: load_graph("new graph", new)?,
         substitutes,
+        connected,
         checkpoint: Vec::new(),
         file,
     };
@@ -141,31 +159,46 @@ fn accepted(what: &str, name: &str, answer: Answer) -> Result<Answer, String> {
     }
 }
 
-/// The four parts of a saved file, if it is in the form. They are from before edition 2 if the graphs
+/// What a saved file has.
+struct Saved {
+    old: Vec<u8>,
+    new: Vec<u8>,
+    substitutes: Vec<u8>,
+    connected: u32,
+    checkpoint: Vec<u8>,
+}
+
+/// The parts of a saved file, if it is in the form. They are from before edition 2 if the graphs
 /// are. No list of that time ends as a checkpoint does, with a 0: so a file that is cut off after the
 /// list is not taken for one of three parts.
-fn parts(mut saved: &[u8]) -> Option<[Vec<u8>; 4]> {
+fn parts(mut saved: &[u8]) -> Option<Saved> {
     let [old, new] = [take_part(&mut saved)?, take_part(&mut saved)?];
     let third = take_part(&mut saved)?;
     let earlier = !old.starts_with(&[4]);
-    let (substitutes, checkpoint) = if earlier && saved.is_empty() && third.ends_with(&[0]) {
+    let (substitutes, mut checkpoint) = if earlier && saved.is_empty() && third.ends_with(&[0]) {
         (NO_SUBSTITUTES, third)
     } else {
         (third, take_part(&mut saved)?)
     };
+    let mut connected = FIRST_SEARCH;
+    if !earlier && checkpoint == CONNECTED_PART {
+        connected = CONNECTED_SEARCH;
+        checkpoint = take_part(&mut saved)?;
+    }
     if !saved.is_empty() {
         return None;
     }
-    let checkpoint = checkpoint.to_vec();
-    Some(if earlier {
-        [
-            moved_up(old)?,
-            moved_up(new)?,
-            widened(substitutes)?,
-            checkpoint,
-        ]
+    let [old, new, substitutes] = if earlier {
+        [moved_up(old)?, moved_up(new)?, widened(substitutes)?]
     } else {
-        [old.to_vec(), new.to_vec(), substitutes.to_vec(), checkpoint]
+        [old, new, substitutes].map(<[u8]>::to_vec)
+    };
+    Some(Saved {
+        old,
+        new,
+        substitutes,
+        connected,
+        checkpoint: checkpoint.to_vec(),
     })
 }
 
@@ -200,6 +233,7 @@ struct Search<'a> {
     old: Vec<u8>,
     new: Vec<u8>,
     substitutes: Vec<u8>,
+    connected: u32,
     checkpoint: Vec<u8>,
     file: &'a str,
 }
@@ -220,19 +254,25 @@ impl Search<'_> {
             Err(error) if error.kind() == ErrorKind::NotFound => return Ok(false),
             Err(_) => return Err(self.failure("cannot be read")),
         };
-        let Some([old, new, substitutes, checkpoint]) = parts(&saved) else {
+        let Some(saved) = parts(&saved) else {
             return Err(self.failure("damaged, or not a file of this program"));
         };
-        if old != self.old {
+        if saved.old != self.old {
             return Err(self.failure("saved for another old graph: name another file"));
         }
-        if new != self.new {
+        if saved.new != self.new {
             return Err(self.failure("saved for another new graph: name another file"));
         }
-        if substitutes != self.substitutes {
+        if saved.substitutes != self.substitutes {
             return Err(self.failure("saved for other substitutes: name another file"));
         }
-        self.checkpoint = checkpoint;
+        if saved.connected != self.connected {
+            return Err(self.failure(match saved.connected {
+                FIRST_SEARCH => "saved without --connected: name another file",
+                _ => "saved with --connected: name another file",
+            }));
+        }
+        self.checkpoint = saved.checkpoint;
         Ok(true)
     }
 
@@ -242,6 +282,9 @@ impl Search<'_> {
         put_part(&mut saved, &self.old);
         put_part(&mut saved, &self.new);
         put_part(&mut saved, &self.substitutes);
+        if self.connected != FIRST_SEARCH {
+            put_part(&mut saved, CONNECTED_PART);
+        }
         put_part(&mut saved, &self.checkpoint);
         let second = format!("{}.saving", self.file);
         fs::write(&second, saved)
@@ -255,6 +298,7 @@ impl Search<'_> {
             &self.old,
             &self.new,
             &self.substitutes,
+            self.connected,
             minimum,
             &mut checkpoint,
         );
@@ -270,6 +314,7 @@ impl Search<'_> {
             &self.old,
             &self.new,
             &self.substitutes,
+            self.connected,
             &self.checkpoint,
             budget,
             &mut workspace,
@@ -285,6 +330,7 @@ impl Search<'_> {
             &self.old,
             &self.new,
             &self.substitutes,
+            self.connected,
             &self.checkpoint,
             mapping,
         ))

@@ -1,4 +1,4 @@
-/* Golfcedar: the largest common subgraph of two labelled graphs, by a proved search that can be stopped and resumed.
+/* Golfcedar: the largest common subgraph of two labelled graphs, or the largest connected one, by a proved search that can be stopped and resumed.
  *
  * Link with libc_api.a (`rt staticlib c_api`). Every function here is proved against a definition: docs/PROMISES.md, "The library
  * to link", names each.
@@ -27,7 +27,7 @@
  *    5, 7, 8 an edge of a vertex not yet given; with label 0; given already              place
  *    9       bytes after the end                                                         place
  *    13      what is to be written does not fit into its buffer                          0
- *    14      the checkpoint is not in shape for these graphs and this list               0
+ *    14      the checkpoint is not in shape for these graphs, this list and this search  0
  *    15      fewer than 4,160 workspace words                                            0
  *    16      unfinished, and steps + budget above 2^64 - 1                               0
  *    17      checkpoint bytes not in the form                                            place
@@ -48,6 +48,16 @@
  * vertex, then the label of a new vertex that may stand in for it; at most 256 pairs. A pair holds one way only, and pairs do not chain: by 7 0 8 0 8 0 9 0 an
  * old 7 does not agree with a new 9. A list of length 0 says that only equal labels agree. Edges never read it: their labels must be equal. Calls that resume
  * one another take the same bytes: a checkpoint made under another list may be refused with 14, or be accepted, and then the ceiling is not promised.
+ *
+ * `connected` says which search it is: 0 the first, which looks for any common subgraph; any other value the second, which looks for connected ones. A common
+ * subgraph is connected if its mapped old vertices hang together by edges among themselves, of any label: from each of them a way along such edges leads to each
+ * other one. A way through a vertex that is left out does not count, and an edge of a vertex with itself joins nothing. With one mapped vertex, or none, it is
+ * connected. The second search makes its visits in the same tree by the same rules, but does not hold a mapping that is not connected: so what it finds may be
+ * smaller than what the first one finds, and it may need more steps. A checkpoint that holds a mapping that is not connected is not in shape for the second
+ * search: 14, from `golfcedar_resume` and `golfcedar_read_out`; a search that has not begun holds nothing, so `golfcedar_start` writes the same bytes for both.
+ * Calls that resume one another are of the same search, all with 0 or all with other values; checkpoint bytes do not tell of which. A checkpoint that the other
+ * search left counts as one that no call left: it may be refused with 14, or be accepted and walked, and then neither the ceiling is promised nor that a finished
+ * search holds the largest; what is held is still a common subgraph, in the second search a connected one.
  */
 #ifndef GOLFCEDAR_H
 #define GOLFCEDAR_H
@@ -87,42 +97,45 @@ uint32_t golfcedar_check_mapping(const uint8_t *old_graph, size_t old_len, const
                                  const uint8_t *substitutes, size_t substitutes_len, const uint8_t *mapping, size_t mapping_len,
                                  uint64_t *value, uint64_t *earlier);
 
-/* A search that has not begun: only mappings of at least `minimum` vertices will be found. Accepted: its checkpoint stands in the first
- * *value bytes of `checkpoint`, and later bytes are untouched. Refused: 27; 1 to 9; 23; 24; 13 if it does not fit, never with 270 bytes. */
+/* A search that has not begun: only mappings of at least `minimum` vertices will be found, and only connected ones if `connected` is not 0. Accepted: its
+ * checkpoint stands in the first *value bytes of `checkpoint`, and later bytes are untouched. Refused: 27; 1 to 9; 23; 24; 13 if it does not fit, never with 270
+ * bytes. */
 uint32_t golfcedar_start(const uint8_t *old_graph, size_t old_len, const uint8_t *new_graph, size_t new_len,
-                         const uint8_t *substitutes, size_t substitutes_len, uint8_t minimum, uint8_t *checkpoint, size_t checkpoint_len,
-                         uint64_t *value);
+                         const uint8_t *substitutes, size_t substitutes_len, uint32_t connected, uint8_t minimum, uint8_t *checkpoint,
+                         size_t checkpoint_len, uint64_t *value);
 
 /* Goes on with a search for `budget` visits, fewer only if it finishes. `checkpoint` has exactly the bytes that an earlier call wrote.
- * Accepted: the next checkpoint stands in the first *value bytes of `next`, later bytes are untouched; every common subgraph has fewer than
- * *ceiling vertices (if the search began with `golfcedar_start`, and all its calls took the same two graphs and substitutes); the first 4,160 words of
- * `workspace` are 0, later words are untouched. Refused: 27; 1 to 9; 23; 24; 17; 14; 15; 16; 13 if the next checkpoint does not fit, never with 270 bytes. How
- * long it is shows only when the visits are made, so lend 270: after 13 the search stands where it stood, and the visits have to be made again. */
+ * Accepted: the next checkpoint stands in the first *value bytes of `next`, later bytes are untouched; every common subgraph, in the second search every
+ * connected one, has fewer than *ceiling vertices (if the search began with `golfcedar_start`, and all its calls took the same two graphs and substitutes and
+ * were of the same search); the first 4,160 words of `workspace` are 0, later words are untouched. Refused: 27; 1 to 9; 23; 24; 17; 14; 15; 16; 13 if the next
+ * checkpoint does not fit, never with 270 bytes. How long it is shows only when the visits are made, so lend 270: after 13 the search stands where it stood, and
+ * the visits have to be made again. */
 uint32_t golfcedar_resume(const uint8_t *old_graph, size_t old_len, const uint8_t *new_graph, size_t new_len,
-                          const uint8_t *substitutes, size_t substitutes_len, const uint8_t *checkpoint, size_t checkpoint_len,
-                          uint64_t budget, uint64_t *workspace, size_t workspace_words, uint8_t *next, size_t next_len, uint64_t *value,
-                          uint64_t *ceiling);
+                          const uint8_t *substitutes, size_t substitutes_len, uint32_t connected, const uint8_t *checkpoint,
+                          size_t checkpoint_len, uint64_t budget, uint64_t *workspace, size_t workspace_words, uint8_t *next,
+                          size_t next_len, uint64_t *value, uint64_t *ceiling);
 
 /* What a checkpoint says. Accepted: *value is its state (0 unfinished, 1 unfinished with a mapping held, 2 finished, 3 finished with one), *steps the
  * visits made, *ceiling as `golfcedar_resume` gives it. If a mapping is held, *size is its size, and one byte for each old vertex is stored to `mapping`;
  * else *size is 0 and `mapping` is untouched. Refused: 27; 1 to 9; 23; 24; 17; 14; 13 if a mapping is held and has more bytes than `mapping`, never with 64
  * bytes. */
 uint32_t golfcedar_read_out(const uint8_t *old_graph, size_t old_len, const uint8_t *new_graph, size_t new_len,
-                            const uint8_t *substitutes, size_t substitutes_len, const uint8_t *checkpoint, size_t checkpoint_len,
-                            uint8_t *mapping, size_t mapping_len, uint64_t *value, uint64_t *steps, uint64_t *size, uint64_t *ceiling);
+                            const uint8_t *substitutes, size_t substitutes_len, uint32_t connected, const uint8_t *checkpoint,
+                            size_t checkpoint_len, uint8_t *mapping, size_t mapping_len, uint64_t *value, uint64_t *steps, uint64_t *size,
+                            uint64_t *ceiling);
 
-/* The whole search in one call, for an old graph of at most eight vertices: by clique branching, which holds the mapping that a finished search with this
- * `minimum` holds. Accepted: *value is 1 if a mapping is held; then *size is its size, one byte for each old vertex is stored to `mapping`, and later bytes are
- * untouched. Else *value and *size are 0, `mapping` is untouched, and no common subgraph has `minimum` vertices. Refused: 27; 1 to 9; 23; 24; 25; 13 if a mapping
- * is held and has more bytes than `mapping`, never with 8 bytes.
+/* The whole first search in one call, for an old graph of at most eight vertices: by clique branching, which holds the mapping that a finished first search with
+ * this `minimum` holds, connected or not. Accepted: *value is 1 if a mapping is held; then *size is its size, one byte for each old vertex is stored to
+ * `mapping`, and later bytes are untouched. Else *value and *size are 0, `mapping` is untouched, and no common subgraph has `minimum` vertices. Refused: 27; 1
+ * to 9; 23; 24; 25; 13 if a mapping is held and has more bytes than `mapping`, never with 8 bytes.
  * It has no bound and no budget: it goes through every common subgraph, and returns when it is through. That takes moments where few new vertices agree with
  * each old one, and does not end in practice where 64 do (README.md has figures): `golfcedar_resume` can be stopped. */
 uint32_t golfcedar_clique(const uint8_t *old_graph, size_t old_len, const uint8_t *new_graph, size_t new_len,
                           const uint8_t *substitutes, size_t substitutes_len, uint8_t minimum, uint8_t *mapping, size_t mapping_len,
                           uint64_t *value, uint64_t *size);
 
-/* How many visits a search can take at most if the new graph has `new_order` vertices and the old one `old_order`, whatever their labels and edges, the
- * substitutes and the minimum. The new graph's number comes first here, and the two are not exchangeable: 3 and 2 give 18, 2 and 3 give 24.
+/* How many visits a search, the first or the second, can take at most if the new graph has `new_order` vertices and the old one `old_order`, whatever their
+ * labels and edges, the substitutes and the minimum. The new graph's number comes first here, and the two are not exchangeable: 3 and 2 give 18, 2 and 3 give 24.
  * Accepted: *value is V(new_order, old_order), where V(m, 0) = 1 and V(m, n) = 1 + m * V(m - 1, n - 1) + V(m, n - 1), without the middle term where m is 0;
  * or GOLFCEDAR_STEP_LIMIT_CAP, 2^64 - 1, which means that many or more. Refused: 26.
  * Below the cap, a search that began with `golfcedar_start` is finished once the budgets of its accepted `golfcedar_resume` calls add up to *value. It is a

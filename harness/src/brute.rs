@@ -1,12 +1,14 @@
 //! Brute force: every list of entries is judged by formula (1), with no tree and no bound.
 
-use crate::reference::{Problem, UNMAPPED};
+use crate::reference::{Problem, Sought, UNMAPPED};
 
-/// The first in the order among the largest common subgraphs, as bytes. There is one: all left out.
-pub fn largest(problem: &Problem) -> Vec<u8> {
+/// The first in the order among the largest common subgraphs that are looked for, as bytes. There is
+/// one: all left out.
+pub fn largest(problem: &Problem, sought: Sought) -> Vec<u8> {
     let mut best = vec![UNMAPPED; problem.old.order()];
     for_each_list(problem, &mut |list| {
-        if is_common(problem, list) && is_better(list, &best) {
+        let admitted = sought == Sought::Any || is_connected(problem, list);
+        if admitted && is_common(problem, list) && is_better(list, &best) {
             best.copy_from_slice(list);
         }
     });
@@ -39,6 +41,21 @@ fn is_common(problem: &Problem, list: &[u8]) -> bool {
                 // also of a pair with itself
                 (x == other_x) == (y == other_y) && old.edge(x, other_x) == new.edge(y, other_y)
             })
+    })
+}
+
+/// However the mapped old vertices are parted in two, an edge leads from the one part to the other.
+/// The vertices of the one part are the bits of a number.
+fn is_connected(problem: &Problem, list: &[u8]) -> bool {
+    let mapped: Vec<usize> = (0..list.len())
+        .filter(|&row| list[row] != UNMAPPED)
+        .collect();
+    let whole = (1u32 << mapped.len()) - 1;
+    (1..whole).all(|part| {
+        let (inside, outside): (Vec<_>, Vec<_>) =
+            (0..mapped.len()).partition(|&place| part >> place & 1 == 1);
+        let edge = |a: usize, b: usize| problem.old.edge(mapped[a], mapped[b]) != 0;
+        inside.iter().any(|&a| outside.iter().any(|&b| edge(a, b)))
     })
 }
 

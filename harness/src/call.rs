@@ -1,9 +1,11 @@
 //! One call of the C interface with all the memory lent to it, made by either implementation.
 
 use std::fmt::{self, Display};
+use std::mem;
 use std::ops::Range;
 
 use crate::answer::Answer;
+use crate::library::FIRST_SEARCH;
 use crate::reference::{Edition, Graph, Reason, Refusal, UNMAPPED, WORKSPACE_WORDS};
 use crate::{library, reference};
 
@@ -13,9 +15,9 @@ pub struct Implementation {
     pub name: &'static str,
     pub check_graph: fn(&[u8]) -> Answer,
     pub check_mapping: fn(&[u8], &[u8], &[u8], &[u8]) -> Answer,
-    pub start: fn(&[u8], &[u8], &[u8], u8, &mut [u8]) -> Answer,
-    pub resume: fn(&[u8], &[u8], &[u8], &[u8], u64, &mut [u64], &mut [u8]) -> Answer,
-    pub read_out: fn(&[u8], &[u8], &[u8], &[u8], &mut [u8]) -> Answer,
+    pub start: fn(&[u8], &[u8], &[u8], u32, u8, &mut [u8]) -> Answer,
+    pub resume: fn(&[u8], &[u8], &[u8], u32, &[u8], u64, &mut [u64], &mut [u8]) -> Answer,
+    pub read_out: fn(&[u8], &[u8], &[u8], u32, &[u8], &mut [u8]) -> Answer,
     pub clique: fn(&[u8], &[u8], &[u8], u8, &mut [u8]) -> Answer,
     pub step_limit: fn(u64, u64) -> Answer,
     pub to_edition_2: fn(&[u8], &mut [u8]) -> Answer,
@@ -126,12 +128,14 @@ pub enum Call {
     },
     Start {
         given: Given,
+        connected: u32,
         minimum: u8,
         checkpoint: Buffer<u8>,
     },
     Resume(Resume),
     ReadOut {
         given: Given,
+        connected: u32,
         checkpoint: Vec<u8>,
         mapping: Buffer<u8>,
     },
@@ -146,6 +150,7 @@ pub enum Call {
 #[derive(Clone, Debug, PartialEq, Eq)]
 pub struct Resume {
     pub given: Given,
+    pub connected: u32,
     pub checkpoint: Vec<u8>,
     pub budget: u64,
     pub workspace: Buffer<u64>,
@@ -260,12 +265,14 @@ impl Call {
             }
             Call::Start {
                 given,
+                connected,
                 minimum,
                 checkpoint,
             } => (by.start)(
                 &given.old,
                 &given.new,
                 &given.substitutes,
+                *connected,
                 *minimum,
                 checkpoint.lend(),
             ),
@@ -273,6 +280,7 @@ impl Call {
                 &call.given.old,
                 &call.given.new,
                 &call.given.substitutes,
+                call.connected,
                 &call.checkpoint,
                 call.budget,
                 call.workspace.lend(),
@@ -280,12 +288,14 @@ impl Call {
             ),
             Call::ReadOut {
                 given,
+                connected,
                 checkpoint,
                 mapping,
             } => (by.read_out)(
                 &given.old,
                 &given.new,
                 &given.substitutes,
+                *connected,
                 checkpoint,
                 mapping.lend(),
             ),
@@ -339,6 +349,27 @@ impl Call {
         self
     }
 
+    /// Of a call on a checkpoint: for which search it is.
+    pub fn connected(&self) -> Option<u32> {
+        match self {
+            Call::Resume(Resume { connected, .. }) | Call::ReadOut { connected, .. } => {
+                Some(*connected)
+            }
+            _ => None,
+        }
+    }
+
+    /// This call for the first search. None where it is none of the second.
+    pub fn for_first_search(mut self) -> Option<Call> {
+        let connected = match &mut self {
+            Call::Start { connected, .. }
+            | Call::Resume(Resume { connected, .. })
+            | Call::ReadOut { connected, .. } => connected,
+            _ => return None,
+        };
+        (mem::replace(connected, FIRST_SEARCH) != FIRST_SEARCH).then_some(self)
+    }
+
     /// This call on the same two graphs without their own edges. None where it is not on two graphs,
     /// or one of the two is refused.
     pub fn without_own_edges(mut self) -> Option<Call> {
@@ -384,24 +415,29 @@ impl Call {
                 arguments.push(("mapping", Listed(mapping).to_string()));
             }
             Call::Start {
+                connected,
                 minimum,
                 checkpoint,
                 ..
             } => arguments.extend([
+                ("connected", connected.to_string()),
                 ("minimum", minimum.to_string()),
                 ("checkpoint", checkpoint.to_string()),
             ]),
             Call::Resume(call) => arguments.extend([
+                ("connected", call.connected.to_string()),
                 ("checkpoint", Listed(&call.checkpoint).to_string()),
                 ("budget", call.budget.to_string()),
                 ("workspace", call.workspace.to_string()),
                 ("next", call.next.to_string()),
             ]),
             Call::ReadOut {
+                connected,
                 checkpoint,
                 mapping,
                 ..
             } => arguments.extend([
+                ("connected", connected.to_string()),
                 ("checkpoint", Listed(checkpoint).to_string()),
                 ("mapping", mapping.to_string()),
             ]),

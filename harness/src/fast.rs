@@ -9,6 +9,8 @@
 //!   candidate. The rows with an edge to the row just mapped come first, since most losses are
 //!   among them. If they leave the bound below the cutoff, the others are not looked at; else these
 //!   all meet one mask, that of the null edges.
+//! - The second search (02, U7) looks at edges at its last nodes only: from the least mapped row it
+//!   spreads over the mapped rows, by a word of neighbours for each.
 //!
 //! Each visit is made, by one call of `visit`. To pass a run of rows without candidates at once was
 //! a fifth faster, but then the time of a visit would say little.
@@ -18,10 +20,12 @@ pub mod clique;
 use std::array;
 use std::collections::BTreeMap;
 
-use crate::reference::{entries_from_bytes, Checkpoint, Problem, MAX_VERTICES, UNMAPPED};
+use crate::reference::{entries_from_bytes, Checkpoint, Problem, Sought};
+use crate::reference::{MAX_VERTICES, UNMAPPED};
 
 pub struct Search {
     tables: Tables,
+    sought: Sought,
     /// By the number of pairs on the path.
     levels: Box<[Level; MAX_VERTICES + 1]>,
     /// One for each pair on the path.
@@ -72,6 +76,8 @@ struct Tables {
     /// null edge's first.
     classes: Vec<[u8; MAX_VERTICES]>,
     class_count: usize,
+    /// For each old vertex: the others that it has an edge to.
+    neighbours: Vec<u64>,
     /// For each new vertex and class: the other new vertices with an edge of that class to it.
     masks: Vec<u64>,
 }
@@ -81,7 +87,7 @@ const NULL_CLASS: usize = 0;
 const MANY_EDGES: usize = 6;
 
 impl Search {
-    pub fn start(problem: &Problem, minimum: u8) -> Search {
+    pub fn start(problem: &Problem, sought: Sought, minimum: u8) -> Search {
         let mut levels = Box::new([[0; MAX_VERTICES]; MAX_VERTICES + 1]);
         levels[0] = root(problem);
         let open = Open {
@@ -90,6 +96,7 @@ impl Search {
         };
         Search {
             tables: Tables::new(problem),
+            sought,
             levels,
             choices: [Choice::default(); MAX_VERTICES],
             minimum,
@@ -119,8 +126,10 @@ impl Search {
     fn visit(&mut self, mut node: Next) -> Option<Next> {
         if node.open.bound >= node.cutoff {
             if node.depth == self.tables.order {
-                self.incumbent = Some(self.path(node));
-                node.cutoff = node.pairs + 1;
+                if self.sought == Sought::Any || self.is_connected(node) {
+                    self.incumbent = Some(self.path(node));
+                    node.cutoff = node.pairs + 1;
+                }
             } else if node.open.rows >> node.depth & 1 == 0 {
                 node.depth += 1;
                 return Some(node);
@@ -161,6 +170,20 @@ impl Search {
         let pair = (choice.row, vertex);
         node.open = (self.tables).refine((from, to), pair, choice.open, node.cutoff);
         Some(node)
+    }
+
+    /// The mapped rows hang together.
+    fn is_connected(&self, node: Next) -> bool {
+        let choices = &self.choices[..node.pairs];
+        let mapped = set(choices.iter().map(|choice| choice.row));
+        let mut reached = 0;
+        let mut border = mapped & mapped.wrapping_neg();
+        while border != 0 {
+            reached |= border;
+            let beside = Members(border).fold(0, |word, row| word | self.tables.neighbours[row]);
+            border = beside & mapped & !reached;
+        }
+        reached == mapped
     }
 
     #[cold]
@@ -249,9 +272,12 @@ impl Tables {
         labels.dedup();
         let class_of = |label| labels.binary_search(&label).ok();
         let mut first = vec![0; old.order()];
+        let mut neighbours = vec![0; old.order()];
         let mut classes = vec![[0; MAX_VERTICES]; old.order()];
         for &(a, b, label) in &edges {
             first[a] |= 1 << b;
+            neighbours[a] |= 1 << b;
+            neighbours[b] |= 1 << a;
             classes[a][b] = class_of(label).expect("a label of the old graph") as u8;
         }
         let pairs = old.order() * old.order() / 2;
@@ -269,6 +295,7 @@ impl Tables {
             first,
             classes,
             class_count: labels.len(),
+            neighbours,
             masks,
         }
     }

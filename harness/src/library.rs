@@ -28,6 +28,7 @@ mod c {
             new_len: usize,
             substitutes: *const u8,
             substitutes_len: usize,
+            connected: u32,
             minimum: u8,
             checkpoint: *mut u8,
             checkpoint_len: usize,
@@ -41,6 +42,7 @@ mod c {
             new_len: usize,
             substitutes: *const u8,
             substitutes_len: usize,
+            connected: u32,
             checkpoint: *const u8,
             checkpoint_len: usize,
             budget: u64,
@@ -59,6 +61,7 @@ mod c {
             new_len: usize,
             substitutes: *const u8,
             substitutes_len: usize,
+            connected: u32,
             checkpoint: *const u8,
             checkpoint_len: usize,
             mapping: *mut u8,
@@ -112,6 +115,10 @@ pub const WORKSPACE_WORDS: usize = 4160;
 pub const SUBSTITUTES_BYTES: usize = 1024;
 /// By this list only equal labels agree.
 pub const NO_SUBSTITUTES: &[u8] = &[];
+/// As `connected`: the first search, for any common subgraph.
+pub const FIRST_SEARCH: u32 = 0;
+/// As `connected`, like every other number but 0: the second search, for connected ones.
+pub const CONNECTED_SEARCH: u32 = 1;
 pub const MAX_VERTICES: usize = 64;
 /// Clique branching takes at most so many old vertices.
 pub const CLIQUE_VERTICES: usize = 8;
@@ -158,6 +165,7 @@ pub fn start(
     old: &[u8],
     new: &[u8],
     substitutes: &[u8],
+    connected: u32,
     minimum: u8,
     checkpoint: &mut [u8],
 ) -> Answer {
@@ -170,6 +178,7 @@ pub fn start(
             new.len(),
             substitutes.as_ptr(),
             substitutes.len(),
+            connected,
             minimum,
             checkpoint.as_mut_ptr(),
             checkpoint.len(),
@@ -183,10 +192,12 @@ pub fn start(
     }
 }
 
+#[allow(clippy::too_many_arguments)]
 pub fn resume(
     old: &[u8],
     new: &[u8],
     substitutes: &[u8],
+    connected: u32,
     checkpoint: &[u8],
     budget: u64,
     workspace: &mut [u64],
@@ -201,6 +212,7 @@ pub fn resume(
             new.len(),
             substitutes.as_ptr(),
             substitutes.len(),
+            connected,
             checkpoint.as_ptr(),
             checkpoint.len(),
             budget,
@@ -224,6 +236,7 @@ pub fn read_out(
     old: &[u8],
     new: &[u8],
     substitutes: &[u8],
+    connected: u32,
     checkpoint: &[u8],
     mapping: &mut [u8],
 ) -> Answer {
@@ -236,6 +249,7 @@ pub fn read_out(
             new.len(),
             substitutes.as_ptr(),
             substitutes.len(),
+            connected,
             checkpoint.as_ptr(),
             checkpoint.len(),
             mapping.as_mut_ptr(),

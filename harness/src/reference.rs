@@ -4,6 +4,7 @@
 mod calls;
 mod checkpoint;
 mod clique;
+mod connected;
 mod edition;
 mod graph;
 mod mapping;
@@ -15,6 +16,7 @@ pub use calls::{check_graph, check_mapping, clique, read_out, resume, start, ste
 pub use calls::{to_edition_1, to_edition_2, CHECKPOINT_BYTES, WORKSPACE_WORDS};
 pub use checkpoint::Checkpoint;
 pub use clique::clique_branch;
+pub use connected::Sought;
 pub use edition::Edition;
 pub use graph::{Graph, Problem, MAX_VERTICES};
 pub use mapping::{check, entries_from_bytes, entries_to_bytes, size, Entry, UNMAPPED};

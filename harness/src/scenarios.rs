@@ -9,10 +9,11 @@ use crate::brute;
 use crate::call::{Buffer, Call, Clique, Given, Move, Outcome, Resume, LIBRARY, REFERENCE};
 use crate::cases::{self, ANY_ORDER};
 use crate::fast;
-use crate::library::{CLIQUE_VERTICES, GRAPH_BYTES};
+use crate::library::{CLIQUE_VERTICES, FIRST_SEARCH, GRAPH_BYTES};
 use crate::random::Random;
-use crate::reference::{advance, entries_from_bytes, entries_to_bytes, Checkpoint, Edition, Graph};
-use crate::reference::{Problem, Substitutes, CHECKPOINT_BYTES, MAX_VERTICES, WORKSPACE_WORDS};
+use crate::reference::{advance, ceiling, entries_from_bytes, entries_to_bytes, Checkpoint};
+use crate::reference::{Edition, Graph, Problem, Sought, Substitutes};
+use crate::reference::{CHECKPOINT_BYTES, MAX_VERTICES, WORKSPACE_WORDS};
 
 /// The error is what to print about a disagreement.
 pub type Verdict<T> = Result<T, String>;
@@ -27,11 +28,11 @@ pub struct Kind {
     scenario: Scenario,
 }
 
-pub const KINDS: [Kind; 17] = [
-    kind("graph", 130, graph),
+pub const KINDS: [Kind; 18] = [
+    kind("graph", 120, graph),
     kind("mover", 60, mover),
     kind("moved", 10, moved),
-    kind("mapping", 170, mapping),
+    kind("mapping", 150, mapping),
     kind("start", 50, start),
     kind("room", 40, room),
     kind("crafted", 140, crafted),
@@ -39,6 +40,7 @@ pub const KINDS: [Kind; 17] = [
     kind("small", 130, small),
     kind("relisted", 30, relisted),
     kind("rewired", 20, rewired),
+    kind("crossed", 30, crossed),
     kind("middle", 22, middle),
     kind("large", 3, large),
     kind("long", 5, long),
@@ -78,6 +80,11 @@ pub struct Judge {
     /// How often own edges were what a call was refused for: by its number, and by what the call
     /// answers without any own edges, 0 where nothing else is wrong.
     pub own_edges: BTreeMap<(u32, u32), u64>,
+    /// How often the second search refused a checkpoint whose mapping is not connected: by its
+    /// number, 14, and by what the call answers in the first search.
+    pub islands: BTreeMap<(u32, u32), u64>,
+    /// How often each search made an accepted call on a checkpoint, the first search's first.
+    pub searches: [u64; 2],
     /// Print the calls that agree too.
     pub aloud: bool,
 }
@@ -102,6 +109,12 @@ impl Judge {
         let number = expected.answer.number;
         if let Some(without) = refused_for_own_edges(&call, &expected) {
             *self.own_edges.entry((number, without)).or_default() += 1;
+        }
+        if let Some(first) = refused_for_islands(&call, &expected) {
+            *self.islands.entry((number, first)).or_default() += 1;
+        }
+        if let (Some(connected), true) = (call.connected(), expected.answer.is_accepted()) {
+            self.searches[usize::from(connected != FIRST_SEARCH)] += 1;
         }
         let both = || {
             let [library, wanted] = [&outcome, &expected].map(|outcome| outcome.describe(&call));
@@ -162,6 +175,30 @@ fn refused_for_own_edges(call: &Call, expected: &Outcome) -> Option<u32> {
         22 if value == earlier => without(),
         _ => None,
     }
+}
+
+/// What the call answers in the first search, if it is refused by the second one alone.
+fn refused_for_islands(call: &Call, expected: &Outcome) -> Option<u32> {
+    if expected.answer.number != 14 {
+        return None;
+    }
+    let first = call.clone().for_first_search()?;
+    let number = first.made_by(&REFERENCE).answer.number;
+    (number != 14).then_some(number)
+}
+
+/// The first search, or the second one by any number that says so.
+fn any_search(random: &mut Random) -> u32 {
+    match random.percent(50) {
+        true => FIRST_SEARCH,
+        false => any_connected(random),
+    }
+}
+
+/// With one bit anywhere, with several, or with all.
+fn any_connected(random: &mut Random) -> u32 {
+    let bit = 1 << random.within(0..32);
+    random.pick(&[1, 1, 1, 2, 255, 256, 0xFFFF_0000, u32::MAX, bit])
 }
 
 fn graph(judge: &mut Judge, random: &mut Random) -> Verdict<()> {
@@ -235,6 +272,7 @@ fn start(judge: &mut Judge, random: &mut Random) -> Verdict<()> {
     }
     let call = Call::Start {
         given,
+        connected: any_search(random),
         minimum: random.byte(),
         checkpoint: output(random, CHECKPOINT_BYTES, 20),
     };
@@ -244,12 +282,14 @@ fn start(judge: &mut Judge, random: &mut Random) -> Verdict<()> {
 /// Outputs of every length near the one needed, alone and with other things wrong.
 fn room(judge: &mut Judge, random: &mut Random) -> Verdict<()> {
     let problem = cases::problem(random, 0..8);
+    let connected = any_search(random);
+    let sought = Sought::from_flag(connected);
     let fresh = Checkpoint::fresh(random.within(0..4) as u8);
-    let cut = advance(&problem, &fresh, random.within(0..60) as u64);
+    let cut = advance(&problem, sought, &fresh, random.within(0..60) as u64);
     let budget = random.within(0..60) as u64;
-    let caller = Caller::with(random, &problem, cut.save());
+    let caller = Caller::with(random, &problem, connected, cut.save());
 
-    let saved = advance(&problem, &cut, budget).save().len();
+    let saved = advance(&problem, sought, &cut, budget).save().len();
     for length in near(saved) {
         let mut call = caller.resume_call(random, budget);
         if random.percent(30) {
@@ -266,6 +306,7 @@ fn room(judge: &mut Judge, random: &mut Random) -> Verdict<()> {
         }
         judge.compare(Call::ReadOut {
             given: call.given,
+            connected,
             checkpoint: call.checkpoint,
             mapping: pattern(random, length, MAX_VERTICES),
         })?;
@@ -280,6 +321,7 @@ fn room(judge: &mut Judge, random: &mut Random) -> Verdict<()> {
         }
         judge.compare(Call::Start {
             given,
+            connected,
             minimum: fresh.minimum,
             checkpoint: pattern(random, length, CHECKPOINT_BYTES),
         })?;
@@ -304,7 +346,8 @@ fn crafted(judge: &mut Judge, random: &mut Random) -> Verdict<()> {
     if random.percent(40) {
         cases::misshape(random, &problem, &mut checkpoint);
     }
-    let mut caller = Caller::with(random, &problem, checkpoint.save());
+    let connected = any_search(random);
+    let mut caller = Caller::with(random, &problem, connected, checkpoint.save());
     if random.percent(5) {
         cases::spoil_substitutes(random, &mut caller.given.substitutes);
     }
@@ -323,12 +366,13 @@ fn crafted(judge: &mut Judge, random: &mut Random) -> Verdict<()> {
 fn damaged(judge: &mut Judge, random: &mut Random) -> Verdict<()> {
     let problem = cases::problem(random, 0..8);
     let fresh = Checkpoint::fresh(random.within(0..4) as u8);
+    let connected = any_search(random);
     let visits = random.within(0..60) as u64;
-    let mut checkpoint = advance(&problem, &fresh, visits).save();
+    let mut checkpoint = advance(&problem, Sought::from_flag(connected), &fresh, visits).save();
     for _ in 0..random.within(1..3) {
         cases::damage(random, &mut checkpoint);
     }
-    let mut caller = Caller::with(random, &problem, checkpoint);
+    let mut caller = Caller::with(random, &problem, connected, checkpoint);
     if random.percent(5) {
         cases::spoil_substitutes(random, &mut caller.given.substitutes);
     }
@@ -346,9 +390,10 @@ fn small(judge: &mut Judge, random: &mut Random) -> Verdict<()> {
         1..4 => random.within(0..200) as u64,
         _ => random.within(0..12) as u64,
     };
-    let last = session(judge, random, &problem, minimum, 12, budgets)?;
+    let connected = any_search(random);
+    let last = session(judge, random, &problem, connected, minimum, 12, budgets)?;
     if last.finished {
-        agrees_with_brute_force(&problem, &last)
+        agrees_with_brute_force(&problem, Sought::from_flag(connected), &last)
     } else {
         Ok(())
     }
@@ -359,35 +404,58 @@ fn small(judge: &mut Judge, random: &mut Random) -> Verdict<()> {
 fn relisted(judge: &mut Judge, random: &mut Random) -> Verdict<()> {
     let problem = cases::problem(random, 1..9);
     let minimum = random.pick(&[0, 0, 1, 2]);
-    let caller = Caller::start(judge, random, &problem, minimum)?;
+    let connected = any_search(random);
+    let caller = Caller::start(judge, random, &problem, connected, minimum)?;
     let other = Given {
         substitutes: cases::other_substitutes(random, &problem).save(),
         ..caller.given.clone()
     };
-    there_and_back(judge, random, caller, other)
+    there_and_back(judge, random, caller, (other, connected))
 }
 
 /// The same with other own edges of one of the graphs or both.
 fn rewired(judge: &mut Judge, random: &mut Random) -> Verdict<()> {
     let problem = cases::problem(random, 1..9);
     let minimum = random.pick(&[0, 0, 1, 2]);
-    let caller = Caller::start(judge, random, &problem, minimum)?;
+    let connected = any_search(random);
+    let caller = Caller::start(judge, random, &problem, connected, minimum)?;
     let other = cases::other_own_edges(random, &problem);
     let other = given(random, &other);
-    there_and_back(judge, random, caller, other)
+    there_and_back(judge, random, caller, (other, connected))
 }
 
-/// The search goes on, is given something else for a while, and then what it began with.
+/// The same with the other search: its checkpoint is refused if it holds a mapping that is not
+/// connected and the second search is to go on, else it is walked.
+fn crossed(judge: &mut Judge, random: &mut Random) -> Verdict<()> {
+    let problem = cases::problem(random, 1..9);
+    let minimum = random.pick(&[0, 0, 1, 2]);
+    let first = any_search(random);
+    let caller = Caller::start(judge, random, &problem, first, minimum)?;
+    let second = match first {
+        FIRST_SEARCH => any_connected(random),
+        _ => FIRST_SEARCH,
+    };
+    let given = caller.given.clone();
+    there_and_back(judge, random, caller, (given, second))
+}
+
+/// The search goes on, is given something else for a while, or is another search, and then what it
+/// began with.
 fn there_and_back(
     judge: &mut Judge,
     random: &mut Random,
     mut caller: Caller,
-    other: Given,
+    other: (Given, u32),
 ) -> Verdict<()> {
-    let first = caller.given.clone();
-    for given in [first.clone(), other, first] {
+    let first = (caller.given.clone(), caller.connected);
+    for (given, connected) in [first.clone(), other, first] {
         caller.given = given;
+        caller.connected = connected;
         caller.read_out(judge, random)?;
+        if random.percent(35) {
+            let steps = u64::from(caller.has_begun());
+            caller.spoilt_resume(judge, random, 40, steps)?;
+        }
         let budget = random.within(0..40) as u64;
         caller.resume(judge, random, budget)?;
     }
@@ -403,7 +471,8 @@ fn middle(judge: &mut Judge, random: &mut Random) -> Verdict<()> {
         1..6 => random.within(1..30) as u64,
         _ => random.within(30..600) as u64,
     };
-    session(judge, random, &problem, minimum, 9, budgets).map(drop)
+    let connected = any_search(random);
+    session(judge, random, &problem, connected, minimum, 9, budgets).map(drop)
 }
 
 fn large(judge: &mut Judge, random: &mut Random) -> Verdict<()> {
@@ -411,16 +480,18 @@ fn large(judge: &mut Judge, random: &mut Random) -> Verdict<()> {
     let problem = cases::problem(random, least..ANY_ORDER);
     let minimum = random.pick(&[0, 0, 10, 20]);
     let budgets = |random: &mut Random, _| random.within(0..150) as u64;
-    session(judge, random, &problem, minimum, 3, budgets).map(drop)
+    let connected = any_search(random);
+    session(judge, random, &problem, connected, minimum, 3, budgets).map(drop)
 }
 
 /// Walks so long that only the fast one keeps up.
 fn long(judge: &mut Judge, random: &mut Random) -> Verdict<()> {
     let problem = cases::problem(random, 20..ANY_ORDER);
     let minimum = random.pick(&[0, 0, 5, 10]);
+    let connected = any_search(random);
     let fresh = Checkpoint::fresh(minimum).save();
-    let mut caller = Caller::with(random, &problem, fresh);
-    let mut search = fast::Search::start(&problem, minimum);
+    let mut caller = Caller::with(random, &problem, connected, fresh);
+    let mut search = fast::Search::start(&problem, Sought::from_flag(connected), minimum);
     for _ in 0..3 {
         let budget = random.within(0..60_000) as u64;
         search.advance(budget);
@@ -437,7 +508,7 @@ fn long(judge: &mut Judge, random: &mut Random) -> Verdict<()> {
 /// needed; then a call with one thing or more wrong in it.
 fn clique(judge: &mut Judge, random: &mut Random) -> Verdict<()> {
     let problem = cases::clique_problem(random);
-    let finished = |minimum| advance(&problem, &Checkpoint::fresh(minimum), u64::MAX);
+    let finished = |minimum| advance(&problem, Sought::Any, &Checkpoint::fresh(minimum), u64::MAX);
     let mut call = clique_call(random, &problem);
     if random.percent(50) {
         // the greatest size, which is reached, or the one above
@@ -524,11 +595,12 @@ fn session(
     judge: &mut Judge,
     random: &mut Random,
     problem: &Problem,
+    connected: u32,
     minimum: u8,
     calls: usize,
     budgets: impl Fn(&mut Random, u64) -> u64,
 ) -> Verdict<Checkpoint> {
-    let mut caller = Caller::start(judge, random, problem, minimum)?;
+    let mut caller = Caller::start(judge, random, problem, connected, minimum)?;
     let mut last = Checkpoint::fresh(minimum);
     let mut granted = 0u64;
     for _ in 0..calls {
@@ -553,7 +625,8 @@ fn session(
     if last.finished {
         within_limit(judge, problem, &last)?;
     }
-    let unbroken = advance(problem, &Checkpoint::fresh(minimum), granted);
+    let sought = Sought::from_flag(connected);
+    let unbroken = advance(problem, sought, &Checkpoint::fresh(minimum), granted);
     if last == unbroken {
         Ok(last)
     } else {
@@ -563,27 +636,40 @@ fn session(
     }
 }
 
-fn agrees_with_brute_force(problem: &Problem, finished: &Checkpoint) -> Verdict<()> {
-    let largest = brute::largest(problem);
-    let reaches = brute::size(&largest) >= finished.minimum.into();
+/// What is held at the end, and the ceiling: one above its size, or the minimum if none is held.
+fn agrees_with_brute_force(
+    problem: &Problem,
+    sought: Sought,
+    finished: &Checkpoint,
+) -> Verdict<()> {
+    let largest = brute::largest(problem, sought);
+    let size = brute::size(&largest);
+    let minimum = finished.minimum.into();
+    let reaches = size >= minimum;
     let expected = reaches.then(|| entries_from_bytes(&largest));
-    if finished.incumbent == expected {
+    let due = if reaches { size + 1 } else { minimum };
+    let ceiling = ceiling(problem, finished);
+    if finished.incumbent == expected && ceiling == due {
         Ok(())
     } else {
-        Err(format!("{finished:?}, but brute force finds {expected:?}"))
+        Err(format!(
+            "{finished:?}, ceiling {ceiling}, but brute force finds {expected:?}"
+        ))
     }
 }
 
 /// One who passes a search on as bytes between calls.
 struct Caller {
     given: Given,
+    connected: u32,
     checkpoint: Vec<u8>,
 }
 
 impl Caller {
-    fn with(random: &mut Random, problem: &Problem, checkpoint: Vec<u8>) -> Caller {
+    fn with(random: &mut Random, problem: &Problem, connected: u32, checkpoint: Vec<u8>) -> Caller {
         Caller {
             given: given(random, problem),
+            connected,
             checkpoint,
         }
     }
@@ -592,11 +678,13 @@ impl Caller {
         judge: &mut Judge,
         random: &mut Random,
         problem: &Problem,
+        connected: u32,
         minimum: u8,
     ) -> Verdict<Caller> {
-        let mut caller = Caller::with(random, problem, Vec::new());
+        let mut caller = Caller::with(random, problem, connected, Vec::new());
         let outcome = judge.compare(Call::Start {
             given: caller.given.clone(),
+            connected,
             minimum,
             checkpoint: output(random, CHECKPOINT_BYTES, 0),
         })?;
@@ -638,6 +726,7 @@ impl Caller {
         let spare = random.pick(&[0, 0, 1, 40]);
         Resume {
             given: self.given.clone(),
+            connected: self.connected,
             checkpoint: self.checkpoint.clone(),
             budget,
             workspace: workspace(random, WORKSPACE_WORDS + spare),
@@ -648,6 +737,7 @@ impl Caller {
     fn read_out(&self, judge: &mut Judge, random: &mut Random) -> Verdict<()> {
         let call = Call::ReadOut {
             given: self.given.clone(),
+            connected: self.connected,
             checkpoint: self.checkpoint.clone(),
             mapping: output(random, MAX_VERTICES, 5),
         };
@@ -662,8 +752,13 @@ impl Caller {
         judge.compare(call).map(drop)
     }
 
+    /// Whether the steps of the checkpoint, which are its bytes 3 to 10, are not 0.
+    fn has_begun(&self) -> bool {
+        self.checkpoint[3..11].iter().any(|&byte| byte != 0)
+    }
+
     fn load(&self, problem: &Problem) -> Verdict<Checkpoint> {
-        Checkpoint::load(problem, &self.checkpoint)
+        Checkpoint::load(problem, Sought::from_flag(self.connected), &self.checkpoint)
             .map_err(|refusal| format!("a call left {:?}: {refusal:?}", self.checkpoint))
     }
 }

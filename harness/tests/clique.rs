@@ -3,7 +3,7 @@
 
 use harness::answer::Answer;
 use harness::call::{Implementation, LIBRARY, REFERENCE};
-use harness::library::{CLIQUE_VERTICES, NO_SUBSTITUTES};
+use harness::library::{CLIQUE_VERTICES, FIRST_SEARCH, NO_SUBSTITUTES};
 use harness::reference::{CHECKPOINT_BYTES, MAX_VERTICES, UNMAPPED, WORKSPACE_WORDS};
 
 /// 01's pair P.
@@ -69,15 +69,24 @@ fn held_by_walk(
     minimum: u8,
 ) -> Option<Vec<u8>> {
     let mut fresh = [0; CHECKPOINT_BYTES];
-    let started = (by.start)(old, new, substitutes, minimum, &mut fresh);
+    let started = (by.start)(old, new, substitutes, FIRST_SEARCH, minimum, &mut fresh);
     let mut workspace = [0; WORKSPACE_WORDS];
     let mut last = [0; CHECKPOINT_BYTES];
     let fresh = &fresh[..started.value as usize];
     let (budget, words, room) = (u64::MAX, &mut workspace, &mut last);
-    let resumed = (by.resume)(old, new, substitutes, fresh, budget, words, room);
+    let resumed = (by.resume)(
+        old,
+        new,
+        substitutes,
+        FIRST_SEARCH,
+        fresh,
+        budget,
+        words,
+        room,
+    );
     let mut mapping = vec![0; MAX_VERTICES];
     let last = &last[..resumed.value as usize];
-    let read = (by.read_out)(old, new, substitutes, last, &mut mapping);
+    let read = (by.read_out)(old, new, substitutes, FIRST_SEARCH, last, &mut mapping);
     assert_eq!((started.number, resumed.number, read.number), (0, 0, 0));
     assert!(read.value >= 2, "not finished");
     mapping.truncate((by.check_graph)(old).value as usize);

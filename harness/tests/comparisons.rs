@@ -4,7 +4,9 @@ use std::thread;
 
 use harness::call::{Buffer, Call, Clique, Given, Move, Resume, LIBRARY};
 use harness::cases::{graph, Style};
-use harness::library::{CLIQUE_VERTICES, GRAPH_BYTES, SUBSTITUTES_BYTES};
+use harness::library::{
+    CLIQUE_VERTICES, CONNECTED_SEARCH, FIRST_SEARCH, GRAPH_BYTES, SUBSTITUTES_BYTES,
+};
 use harness::random::Random;
 use harness::reference::{Checkpoint, Edition, Graph};
 use harness::reference::{CHECKPOINT_BYTES, MAX_VERTICES, WORKSPACE_WORDS};
@@ -22,9 +24,9 @@ fn each_kind_agrees() {
     }
 }
 
-/// Each function on two graphs of 64 vertices and all edges, and on a full list; clique branching on
-/// as many old vertices as it takes.
-fn heavy_calls() -> [Call; 9] {
+/// Each function on two graphs of 64 vertices and all edges, and on a full list, for this search if it
+/// takes one; clique branching on as many old vertices as it takes.
+fn heavy_calls(connected: u32) -> [Call; 9] {
     let style = Style {
         vertex_labels: vec![7],
         edge_labels: vec![1, 2],
@@ -48,11 +50,13 @@ fn heavy_calls() -> [Call; 9] {
         },
         Call::Start {
             given: given.clone(),
+            connected,
             minimum: 0,
             checkpoint: Buffer::filled(0, CHECKPOINT_BYTES, CHECKPOINT_BYTES),
         },
         Call::ReadOut {
             given: given.clone(),
+            connected,
             checkpoint: checkpoint.clone(),
             mapping: Buffer::filled(0, MAX_VERTICES, MAX_VERTICES),
         },
@@ -65,6 +69,7 @@ fn heavy_calls() -> [Call; 9] {
         Call::Move(full_move(Edition::Two, &full(1))),
         Call::Resume(Resume {
             given,
+            connected,
             checkpoint,
             budget: 1_000,
             workspace: Buffer::filled(1, WORKSPACE_WORDS, WORKSPACE_WORDS),
@@ -111,7 +116,8 @@ fn deep_clique() -> Clique {
 /// A thread has the promised 320 kibibytes; a call that needs more crashes the test.
 #[test]
 fn stack_is_as_promised() {
-    for call in heavy_calls() {
+    let calls = [FIRST_SEARCH, CONNECTED_SEARCH].map(heavy_calls);
+    for call in calls.into_iter().flatten() {
         let thread = thread::Builder::new().stack_size(320 << 10);
         let made = thread.spawn(move || call.made_by(&LIBRARY)).unwrap();
         assert!(made.join().unwrap().answer.is_accepted());

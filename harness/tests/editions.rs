@@ -4,7 +4,7 @@
 use harness::answer::Answer;
 use harness::call::{Implementation, LIBRARY, REFERENCE};
 use harness::cases;
-use harness::library::{EDITION_1_BYTES, GRAPH_BYTES, NO_SUBSTITUTES};
+use harness::library::{EDITION_1_BYTES, FIRST_SEARCH, GRAPH_BYTES, NO_SUBSTITUTES};
 use harness::random::Random;
 use harness::reference::{Edition, Graph, Problem};
 use harness::reference::{CHECKPOINT_BYTES, MAX_VERTICES, WORKSPACE_WORDS};
@@ -211,14 +211,23 @@ fn the_longest_file_has_8515_bytes() {
 /// What a whole search from minimum 0 maps the single old vertex to, and clique branching too.
 fn mapped_to(by: &Implementation, [old, new, list]: [&[u8]; 3]) -> u8 {
     let mut fresh = [0; CHECKPOINT_BYTES];
-    let started = (by.start)(old, new, list, 0, &mut fresh);
+    let started = (by.start)(old, new, list, FIRST_SEARCH, 0, &mut fresh);
     let fresh = &fresh[..started.value as usize];
     let mut last = [0; CHECKPOINT_BYTES];
     let mut workspace = [0; WORKSPACE_WORDS];
-    let resumed = (by.resume)(old, new, list, fresh, 100, &mut workspace, &mut last);
+    let resumed = (by.resume)(
+        old,
+        new,
+        list,
+        FIRST_SEARCH,
+        fresh,
+        100,
+        &mut workspace,
+        &mut last,
+    );
     let [mut walked, mut branched] = [[0; 1]; 2];
     let last = &last[..resumed.value as usize];
-    let read = (by.read_out)(old, new, list, last, &mut walked);
+    let read = (by.read_out)(old, new, list, FIRST_SEARCH, last, &mut walked);
     assert_eq!((started.number, resumed.number, read.number), (0, 0, 0));
     let answer = (by.clique)(old, new, list, 0, &mut branched);
     assert_eq!((answer.number, branched), (0, walked), "{}", by.name);
@@ -317,9 +326,9 @@ fn old_files_are_27_to_every_other_call() {
             let mut few = [9; 3];
             let answers = [
                 (by.check_mapping)(old, new, list, &[9, 9]),
-                (by.start)(old, new, list, 0, &mut []),
-                (by.resume)(old, new, list, &[], 1, &mut few, &mut []),
-                (by.read_out)(old, new, list, &[], &mut []),
+                (by.start)(old, new, list, FIRST_SEARCH, 0, &mut []),
+                (by.resume)(old, new, list, FIRST_SEARCH, &[], 1, &mut few, &mut []),
+                (by.read_out)(old, new, list, FIRST_SEARCH, &[], &mut []),
                 (by.clique)(old, new, list, 0, &mut []),
             ];
             assert_eq!(answers, [due; 5], "{}", by.name);
@@ -339,14 +348,23 @@ fn checkpoint_bytes_are_as_they_were() {
             16, 1, 17, 4, 0, 0, 0, 0, 0, 0, 0, 18, 1, 19, 1, 19, 255, 20, 1, 20, 0, 20, 255, 0,
         ];
         let mut fresh = [0; CHECKPOINT_BYTES];
-        let started = (by.start)(old, new, NO_SUBSTITUTES, 1, &mut fresh);
+        let started = (by.start)(old, new, NO_SUBSTITUTES, FIRST_SEARCH, 1, &mut fresh);
         let fresh = &fresh[..started.value as usize];
         let mut next = [0; CHECKPOINT_BYTES];
         let (words, room) = (&mut [0; WORKSPACE_WORDS], &mut next);
-        let resumed = (by.resume)(old, new, NO_SUBSTITUTES, fresh, 4, words, room);
+        let resumed = (by.resume)(
+            old,
+            new,
+            NO_SUBSTITUTES,
+            FIRST_SEARCH,
+            fresh,
+            4,
+            words,
+            room,
+        );
         assert_eq!(next[..resumed.value as usize], held, "{}", by.name);
         let mut mapping = [0; 3];
-        let read = (by.read_out)(old, new, NO_SUBSTITUTES, &held, &mut mapping);
+        let read = (by.read_out)(old, new, NO_SUBSTITUTES, FIRST_SEARCH, &held, &mut mapping);
         assert_eq!((read.number, mapping), (0, [1, 0, 255]));
     });
 }

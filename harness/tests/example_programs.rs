@@ -321,6 +321,172 @@ fn each_program_goes_on_from_the_others_file_with_substitutes() {
     }
 }
 
+/// Three vertices of label 7, of which 0 and 1 hang together.
+const LOOSE: [u8; 16] = [4, 2, 3, 7, 0, 3, 7, 0, 3, 7, 0, 2, 0, 1, 1, 0];
+/// Of this graph and itself: what the first search finds, and what the connected one does.
+const LOOSE_FINISHED: &str = "state finished\nsteps 9\nsize 3\nceiling 4\n\
+    0 maps to 0\n1 maps to 1\n2 maps to 2\n";
+const CONNECTED_FINISHED: &str = "state finished\nsteps 13\nsize 2\nceiling 3\n\
+    0 maps to 0\n1 maps to 1\n2 is left out\n";
+
+impl Folder {
+    /// Both graphs are the loose one.
+    fn loosen(&self) {
+        self.write("old", &LOOSE);
+        self.write("new", &LOOSE);
+    }
+
+    /// What an accepted run with `--connected` prints.
+    fn connected(&self, program: &Path, pairs: &[&str], words: &[&str]) -> String {
+        let output = self.run(program, &connected_arguments(pairs, words));
+        assert!(output.status.success(), "{words:?} {output:?}");
+        assert!(output.stderr.is_empty(), "{words:?} {output:?}");
+        String::from_utf8(output.stdout).unwrap()
+    }
+
+    /// The message of a refused run with `--connected`. The file stays as it was.
+    fn connected_refused(&self, program: &Path, pairs: &[&str], words: &[&str]) -> String {
+        let saved = self.saved();
+        let output = self.run(program, &connected_arguments(pairs, words));
+        assert!(!output.status.success(), "{words:?} {output:?}");
+        assert!(output.stdout.is_empty(), "{words:?} {output:?}");
+        assert_eq!(self.saved(), saved, "{words:?}");
+        let message = String::from_utf8(output.stderr).unwrap();
+        message.strip_suffix('\n').unwrap().to_string()
+    }
+}
+
+fn connected_arguments<'a>(pairs: &[&'a str], words: &[&'a str]) -> Vec<&'a str> {
+    [&["--connected"][..], &arguments(pairs, words)].concat()
+}
+
+#[test]
+fn a_connected_remainder_is_found() {
+    both("connected", |folder, program| {
+        folder.loosen();
+        assert_eq!(folder.printed(program, &["100"]), LOOSE_FINISHED);
+        fs::remove_file(folder.0.join("saved")).unwrap();
+        assert_eq!(
+            folder.connected(program, &[], &["4"]),
+            "state unfinished\nsteps 4\nsize none\nceiling 4\n"
+        );
+        assert_eq!(folder.connected(program, &[], &["100"]), CONNECTED_FINISHED);
+        assert_eq!(
+            folder.connected(program, &[], &["0", "0"]),
+            CONNECTED_FINISHED
+        );
+        fs::remove_file(folder.0.join("saved")).unwrap();
+        let none = folder.connected(program, &[], &["100", "3"]);
+        assert!(none.starts_with("state finished\n"), "{none}");
+        assert!(none.ends_with("size none\nceiling 3\n"), "{none}");
+        fs::remove_file(folder.0.join("saved")).unwrap();
+        // together with substitutes
+        folder.write("new", &[4, 2, 3, 9, 0, 3, 9, 0, 3, 9, 0, 2, 0, 1, 1, 0]);
+        assert_eq!(
+            folder.connected(program, &["7:9"], &["100"]),
+            CONNECTED_FINISHED
+        );
+        // after these, or twice, it says the same
+        let others: [&[&str]; 2] = [
+            &["--substitute", "7:9", "--connected"],
+            &["--connected", "--substitute", "7:9", "--connected"],
+        ];
+        for options in others {
+            let words = [options, &["old", "new", "saved", "0"]].concat();
+            let output = folder.run(program, &words);
+            assert_eq!(output.stdout, CONNECTED_FINISHED.as_bytes(), "{options:?}");
+        }
+    });
+}
+
+#[test]
+fn a_file_of_the_other_search_is_refused() {
+    both("other-search", |folder, program| {
+        folder.loosen();
+        // also where the two walks agree so far
+        for budget in ["0", "3", "4", "100"] {
+            folder.printed(program, &[budget]);
+            assert_eq!(
+                folder.connected_refused(program, &[], &["3"]),
+                "checkpoint saved: saved without --connected: name another file"
+            );
+            fs::remove_file(folder.0.join("saved")).unwrap();
+            folder.connected(program, &[], &[budget]);
+            assert_eq!(
+                folder.refused(program, &["3"]),
+                "checkpoint saved: saved with --connected: name another file"
+            );
+            assert_eq!(
+                folder.connected_refused(program, &["7:9"], &["3"]),
+                "checkpoint saved: saved for other substitutes: name another file"
+            );
+            fs::remove_file(folder.0.join("saved")).unwrap();
+        }
+    });
+}
+
+/// There is a part more, the byte 1, and no cut of the file is taken for another one.
+#[test]
+fn the_file_of_the_connected_search_has_five_parts() {
+    both("five-parts", |folder, program| {
+        folder.connected(program, &[], &["4", "1"]);
+        let whole = parts(&[&OLD, &NEW, &[], &[1], &CHECKPOINT]);
+        assert_eq!(folder.saved().unwrap(), whole);
+        let list: &[u8] = &[1, 0, 2, 0];
+        let damaged: [&[&[u8]]; 7] = [
+            &[&OLD, &NEW, &[], &[0], &CHECKPOINT],
+            &[&OLD, &NEW, &[], &[2], &CHECKPOINT],
+            &[&OLD, &NEW, &[], &[], &CHECKPOINT],
+            &[&OLD, &NEW, &[], &[1, 1], &CHECKPOINT],
+            &[&OLD, &NEW, &[], &[1], &CHECKPOINT, &[]],
+            &[&OLD, &NEW, list, &[1]],
+            // no file from before edition 2 is of the connected search
+            &[&OLD_BEFORE, &NEW_BEFORE, &[], &[1], &CHECKPOINT],
+        ];
+        let cuts = (0..whole.len()).map(|length| whole[..length].to_vec());
+        for bytes in cuts.chain(damaged.map(parts)) {
+            folder.write("saved", &bytes);
+            for message in [
+                folder.connected_refused(program, &[], &["0"]),
+                folder.refused(program, &["0"]),
+            ] {
+                assert_eq!(
+                    message, "checkpoint saved: damaged, or not a file of this program",
+                    "{bytes:?}"
+                );
+            }
+        }
+        folder.write("saved", &whole);
+        assert_eq!(folder.connected(program, &[], &["0"]), HELD);
+        // a held mapping that is not connected is none of the connected search
+        folder.loosen();
+        let mut held = [16, 0, 17, 9, 0, 0, 0, 0, 0, 0, 0, 18, 3].to_vec();
+        held.extend([20, 0, 20, 1, 20, 2, 0]);
+        folder.write("saved", &parts(&[&LOOSE, &LOOSE, &[], &held]));
+        assert_eq!(folder.printed(program, &["0"]), LOOSE_FINISHED);
+        folder.write("saved", &parts(&[&LOOSE, &LOOSE, &[], &[1], &held]));
+        assert_eq!(
+            folder.connected_refused(program, &[], &["0"]),
+            "checkpoint saved: refused 14 (0)"
+        );
+    });
+}
+
+#[test]
+fn each_program_goes_on_from_the_others_connected_file() {
+    for (first, second, name) in [
+        (c_program(), rust_program(), "c-then-rust-connected"),
+        (rust_program(), c_program(), "rust-then-c-connected"),
+    ] {
+        let folder = Folder::new(name);
+        folder.loosen();
+        folder.connected(first, &[], &["4"]);
+        assert!(folder.refused(second, &["3"]).contains("with --connected"));
+        assert_eq!(folder.connected(second, &[], &["9"]), CONNECTED_FINISHED);
+        assert_eq!(folder.connected(first, &[], &["0"]), CONNECTED_FINISHED);
+    }
+}
+
 #[test]
 fn only_two_labels_are_a_substitute() {
     both("substitute-word", |folder, program| {
@@ -397,6 +563,11 @@ fn the_longest_file_is_saved_and_loaded() {
         assert!(held.starts_with("state unfinished\nsteps 65\nsize 64\nceiling 65\n"));
         let longest = 2 + 8515 + 2 + 8515 + 2 + 1024 + 2 + 270;
         assert_eq!(folder.saved().unwrap().len(), longest);
+        fs::rename(folder.0.join("saved"), folder.0.join("first")).unwrap();
+        assert_eq!(folder.connected(program, &pairs, &["65"]), held);
+        assert_eq!(folder.saved().unwrap().len(), longest + 3);
+        assert_eq!(folder.connected(program, &pairs, &["0"]), held);
+        fs::rename(folder.0.join("first"), folder.0.join("saved")).unwrap();
         let finished = folder.printed_with(program, &pairs, &["100000"]);
         assert!(finished.starts_with("state finished\n") && finished.ends_with("63 maps to 63\n"));
         folder.write("new", &[&graph[..], &[0]].concat());
@@ -628,15 +799,28 @@ fn a_file_that_cannot_be_saved_is_refused() {
 #[test]
 fn too_few_or_too_many_arguments_are_refused() {
     both("arguments", |folder, program| {
-        let needs =
-            "resume needs: [--substitute LABEL:LABEL]... OLD NEW CHECKPOINT BUDGET [MINIMUM]";
-        for words in [&[][..], &["3", "0", "0"], &["3", "--substitute", "7:9"]] {
+        let needs = "resume needs: [--connected] [--substitute LABEL:LABEL]... \
+            OLD NEW CHECKPOINT BUDGET [MINIMUM]";
+        for words in [
+            &[][..],
+            &["3", "0", "0"],
+            &["3", "--substitute", "7:9"],
+            &["3", "0", "--connected"],
+        ] {
             assert_eq!(folder.refused(program, words), needs);
             assert_eq!(folder.refused_with(program, &["7:9"], words), needs);
         }
-        let output = folder.run(program, &["--substitute"]);
-        assert!(!output.status.success() && output.stdout.is_empty());
-        assert_eq!(output.stderr, format!("{needs}\n").into_bytes());
+        let wrong: [&[&str]; 4] = [
+            &["--substitute"],
+            &["--connected"],
+            &["--connected", "--substitute"],
+            &["--connected", "old", "new", "saved"],
+        ];
+        for arguments in wrong {
+            let output = folder.run(program, arguments);
+            assert!(!output.status.success() && output.stdout.is_empty());
+            assert_eq!(output.stderr, format!("{needs}\n").into_bytes());
+        }
         assert_eq!(folder.saved(), None);
     });
 }

@@ -3,15 +3,20 @@
 
 use harness::answer::Answer;
 use harness::cases::{graph, Style};
-use harness::library::NO_SUBSTITUTES;
+use harness::library::{CONNECTED_SEARCH, FIRST_SEARCH, NO_SUBSTITUTES};
 use harness::random::Random;
 use harness::reference::{Checkpoint, CHECKPOINT_BYTES, WORKSPACE_WORDS};
 use harness::{library, reference};
 
-type Resume = fn(&[u8], &[u8], &[u8], &[u8], u64, &mut [u64], &mut [u8]) -> Answer;
+type Resume = fn(&[u8], &[u8], &[u8], u32, &[u8], u64, &mut [u64], &mut [u8]) -> Answer;
 
 /// The answers of calls with these budgets, one after the other, and each call's checkpoint.
-fn calls(resume: Resume, graph: &[u8], budgets: [u64; 4]) -> Vec<(Answer, Vec<u8>)> {
+fn calls(
+    resume: Resume,
+    graph: &[u8],
+    connected: u32,
+    budgets: [u64; 4],
+) -> Vec<(Answer, Vec<u8>)> {
     let mut checkpoint = Checkpoint::fresh(0).save();
     let mut made = Vec::new();
     for budget in budgets {
@@ -21,6 +26,7 @@ fn calls(resume: Resume, graph: &[u8], budgets: [u64; 4]) -> Vec<(Answer, Vec<u8
             graph,
             graph,
             NO_SUBSTITUTES,
+            connected,
             &checkpoint,
             budget,
             &mut workspace,
@@ -51,10 +57,12 @@ fn every_vertex_is_paired() {
         let graph = graph(&mut Random::new(0), &style, order).save();
         // up to the first full path, over it, and back down the other choices
         let budgets = [order as u64, 1, 1, 200];
-        assert_eq!(
-            calls(library::resume, &graph, budgets),
-            calls(reference::resume, &graph, budgets),
-            "{order} vertices, own edges {own} %"
-        );
+        for search in [FIRST_SEARCH, CONNECTED_SEARCH] {
+            assert_eq!(
+                calls(library::resume, &graph, search, budgets),
+                calls(reference::resume, &graph, search, budgets),
+                "{order} vertices, own edges {own} %, search {search}"
+            );
+        }
     }
 }

@@ -4,7 +4,7 @@
 
 use harness::answer::Answer;
 use harness::call::{Implementation, LIBRARY, REFERENCE};
-use harness::library::{GRAPH_BYTES, NO_SUBSTITUTES};
+use harness::library::{FIRST_SEARCH, GRAPH_BYTES, NO_SUBSTITUTES};
 use harness::reference::{CHECKPOINT_BYTES, MAX_VERTICES, WORKSPACE_WORDS};
 
 /// 01's pair P.
@@ -32,7 +32,7 @@ struct Found {
 
 fn search(by: &Implementation, [old, new]: [&[u8]; 2], minimum: u8, budget: u64) -> Found {
     let mut fresh = [0; CHECKPOINT_BYTES];
-    let started = (by.start)(old, new, NO_SUBSTITUTES, minimum, &mut fresh);
+    let started = (by.start)(old, new, NO_SUBSTITUTES, FIRST_SEARCH, minimum, &mut fresh);
     assert!(started.is_accepted());
     let fresh = &fresh[..started.value as usize];
 
@@ -42,6 +42,7 @@ fn search(by: &Implementation, [old, new]: [&[u8]; 2], minimum: u8, budget: u64)
         old,
         new,
         NO_SUBSTITUTES,
+        FIRST_SEARCH,
         fresh,
         budget,
         &mut workspace,
@@ -51,7 +52,7 @@ fn search(by: &Implementation, [old, new]: [&[u8]; 2], minimum: u8, budget: u64)
     let next = &next[..resumed.value as usize];
 
     let mut mapping = [0; MAX_VERTICES];
-    let read = (by.read_out)(old, new, NO_SUBSTITUTES, next, &mut mapping);
+    let read = (by.read_out)(old, new, NO_SUBSTITUTES, FIRST_SEARCH, next, &mut mapping);
     assert!(read.is_accepted());
     assert_eq!(read.ceiling, resumed.ceiling);
     let order = (by.check_graph)(old).value as usize;

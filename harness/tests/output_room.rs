@@ -1,7 +1,7 @@
 //! 13 is the last refusal, and comes only where the output does not fit (01, "Refusals by place of checking").
 
 use harness::call::{Implementation, LIBRARY, REFERENCE};
-use harness::library::NO_SUBSTITUTES;
+use harness::library::{FIRST_SEARCH, NO_SUBSTITUTES};
 use harness::reference::{MAX_VERTICES, WORKSPACE_WORDS};
 
 const OLD: &[u8] = &[4, 2, 3, 7, 0, 3, 9, 0, 3, 7, 0, 2, 0, 1, 1, 2, 1, 2, 1, 0];
@@ -23,7 +23,7 @@ fn start_fits_or_13() {
     each(|by| {
         for length in 0..=20 {
             let mut checkpoint = vec![0x55; length];
-            let answer = (by.start)(OLD, NEW, NO_SUBSTITUTES, 1, &mut checkpoint);
+            let answer = (by.start)(OLD, NEW, NO_SUBSTITUTES, FIRST_SEARCH, 1, &mut checkpoint);
             if length < FRESH.len() {
                 assert_eq!((answer.number, answer.value), (13, 0));
                 assert_eq!(checkpoint, vec![0x55; length]);
@@ -46,6 +46,7 @@ fn resume_fits_or_13() {
                 OLD,
                 NEW,
                 NO_SUBSTITUTES,
+                FIRST_SEARCH,
                 &FRESH,
                 100,
                 &mut workspace,
@@ -71,7 +72,7 @@ fn held_mapping_fits_or_13() {
     each(|by| {
         for length in 0..=MAX_VERTICES {
             let mut mapping = vec![0x55; length];
-            let answer = (by.read_out)(OLD, NEW, NO_SUBSTITUTES, &LAST, &mut mapping);
+            let answer = (by.read_out)(OLD, NEW, NO_SUBSTITUTES, FIRST_SEARCH, &LAST, &mut mapping);
             if length < 3 {
                 assert_eq!(answer.number, 13);
                 let rest = (answer.value, answer.steps, answer.size, answer.ceiling);
@@ -83,7 +84,7 @@ fn held_mapping_fits_or_13() {
                 assert!(mapping[3..].iter().all(|&byte| byte == 0x55));
             }
         }
-        let nothing_held = (by.read_out)(OLD, NEW, NO_SUBSTITUTES, &FRESH, &mut []);
+        let nothing_held = (by.read_out)(OLD, NEW, NO_SUBSTITUTES, FIRST_SEARCH, &FRESH, &mut []);
         assert_eq!((nothing_held.number, nothing_held.ceiling), (0, 4));
     });
 }
@@ -91,13 +92,22 @@ fn held_mapping_fits_or_13() {
 #[test]
 fn every_other_refusal_comes_before_13() {
     each(|by| {
-        let start = (by.start)(&[], NEW, NO_SUBSTITUTES, 1, &mut []);
+        let start = (by.start)(&[], NEW, NO_SUBSTITUTES, FIRST_SEARCH, 1, &mut []);
         assert_eq!((start.number, start.value), (1, 0));
 
         let mut enough = vec![9; WORKSPACE_WORDS];
         let mut few = vec![9; WORKSPACE_WORDS - 1];
         let resume = |old: &[u8], checkpoint: &[u8], budget: u64, words: &mut [u64]| {
-            let answer = (by.resume)(old, NEW, NO_SUBSTITUTES, checkpoint, budget, words, &mut []);
+            let answer = (by.resume)(
+                old,
+                NEW,
+                NO_SUBSTITUTES,
+                FIRST_SEARCH,
+                checkpoint,
+                budget,
+                words,
+                &mut [],
+            );
             assert!(words.iter().all(|&word| word == 9));
             (answer.number, answer.value)
         };
@@ -113,7 +123,7 @@ fn every_other_refusal_comes_before_13() {
 
         let misshapen = [&LAST[..3], &[0; 8], &LAST[11..]].concat();
         let read_out = |new: &[u8], checkpoint: &[u8]| {
-            let answer = (by.read_out)(OLD, new, NO_SUBSTITUTES, checkpoint, &mut []);
+            let answer = (by.read_out)(OLD, new, NO_SUBSTITUTES, FIRST_SEARCH, checkpoint, &mut []);
             answer.number
         };
         assert_eq!(read_out(NEW, &misshapen), 14);

@@ -4,7 +4,7 @@
 use harness::answer::Answer;
 use harness::call::{Implementation, LIBRARY, REFERENCE};
 use harness::cases;
-use harness::library::{GRAPH_BYTES, NO_SUBSTITUTES};
+use harness::library::{FIRST_SEARCH, GRAPH_BYTES, NO_SUBSTITUTES};
 use harness::random::Random;
 use harness::reference::{Checkpoint, Graph, Problem, Substitutes};
 use harness::reference::{CHECKPOINT_BYTES, MAX_VERTICES, WORKSPACE_WORDS};
@@ -269,7 +269,16 @@ fn resume(
     let mut workspace = [1; WORKSPACE_WORDS];
     let mut next = vec![0; CHECKPOINT_BYTES];
     let (words, room) = (&mut workspace, &mut next);
-    let answer = (by.resume)(old, new, substitutes, checkpoint, budget, words, room);
+    let answer = (by.resume)(
+        old,
+        new,
+        substitutes,
+        FIRST_SEARCH,
+        checkpoint,
+        budget,
+        words,
+        room,
+    );
     next.truncate(answer.value as usize);
     (answer, next)
 }
@@ -277,11 +286,11 @@ fn resume(
 fn search(by: &Implementation, graphs: [&[u8]; 2], minimum: u8, budget: u64) -> Found {
     let [old, new] = graphs;
     let mut fresh = vec![0; CHECKPOINT_BYTES];
-    let started = (by.start)(old, new, NO_SUBSTITUTES, minimum, &mut fresh);
+    let started = (by.start)(old, new, NO_SUBSTITUTES, FIRST_SEARCH, minimum, &mut fresh);
     fresh.truncate(started.value as usize);
     let (resumed, next) = resume(by, [old, new, NO_SUBSTITUTES], &fresh, budget);
     let mut mapping = vec![0; MAX_VERTICES];
-    let read = (by.read_out)(old, new, NO_SUBSTITUTES, &next, &mut mapping);
+    let read = (by.read_out)(old, new, NO_SUBSTITUTES, FIRST_SEARCH, &next, &mut mapping);
     assert_eq!((started.number, resumed.number, read.number), (0, 0, 0));
     assert_eq!(read.ceiling, resumed.ceiling);
     mapping.truncate((by.check_graph)(old).value as usize);
@@ -424,7 +433,7 @@ fn a_checkpoint_is_in_shape_by_own_edges() {
                 assert_eq!(resumed.number, number, "{} {given:?}", by.name);
                 let mut mapping = [0x55; 1];
                 let [old, new, list] = given;
-                let read = (by.read_out)(old, new, list, checkpoint, &mut mapping);
+                let read = (by.read_out)(old, new, list, FIRST_SEARCH, checkpoint, &mut mapping);
                 assert_eq!(read.number, number, "{} {given:?}", by.name);
             }
         }
@@ -513,7 +522,8 @@ fn own_edges_act_as_a_part_of_the_label() {
             cases::misshape(&mut random, &problem, &mut crafted);
             let [own, label] = both.map(|[old, new, list]| {
                 let mut mapping = [0x55; MAX_VERTICES];
-                let answer = (by.read_out)(old, new, list, &crafted.save(), &mut mapping);
+                let answer =
+                    (by.read_out)(old, new, list, FIRST_SEARCH, &crafted.save(), &mut mapping);
                 (answer, mapping)
             });
             assert_eq!(own, label, "{} seed {seed}", by.name);

@@ -8,7 +8,8 @@ use harness::call::{Implementation, LIBRARY, REFERENCE};
 use harness::cases;
 use harness::fast;
 use harness::random::Random;
-use harness::reference::{advance, uncapped_limits, Checkpoint, Graph, Problem, Substitutes};
+use harness::reference::Substitutes;
+use harness::reference::{advance, uncapped_limits, Checkpoint, Graph, Problem, Sought};
 
 const CAP: u64 = u64::MAX;
 const MAX_SIZE: u64 = 64;
@@ -111,7 +112,7 @@ fn the_table_is_as_its_script_writes_it() {
     assert!(String::from_utf8(written.stdout).unwrap() == table);
 }
 
-/// "the walk's total is at most the uncapped V", whatever the minimum.
+/// "the walk's total is at most the uncapped V", whatever the minimum, in both searches.
 #[test]
 fn walks_stay_within_the_limit() {
     for seed in 0..1_000 {
@@ -119,9 +120,11 @@ fn walks_stay_within_the_limit() {
         let problem = cases::problem(&mut random, 0..7);
         let [m, n] = [&problem.new, &problem.old].map(|graph| graph.order() as u64);
         for minimum in [0, 1, 3, 255] {
-            let last = advance(&problem, &Checkpoint::fresh(minimum), u64::MAX);
-            assert!(last.finished);
-            assert!(last.steps <= limit(&LIBRARY, m, n), "seed {seed}");
+            for sought in [Sought::Any, Sought::Connected] {
+                let last = advance(&problem, sought, &Checkpoint::fresh(minimum), u64::MAX);
+                assert!(last.finished);
+                assert!(last.steps <= limit(&LIBRARY, m, n), "seed {seed}");
+            }
         }
     }
 }

@@ -3,7 +3,7 @@
 
 use harness::answer::Answer;
 use harness::call::{Implementation, LIBRARY, REFERENCE};
-use harness::library::NO_SUBSTITUTES;
+use harness::library::{FIRST_SEARCH, NO_SUBSTITUTES};
 use harness::reference::{CHECKPOINT_BYTES, MAX_VERTICES, WORKSPACE_WORDS};
 
 /// One old vertex of label 7 and one new of label 9.
@@ -40,6 +40,7 @@ fn resume(
         old,
         new,
         substitutes,
+        FIRST_SEARCH,
         checkpoint,
         budget,
         &mut workspace,
@@ -64,12 +65,12 @@ struct Found {
 fn found(by: &Implementation, given: [&[u8]; 3]) -> Found {
     let [old, new, substitutes] = given;
     let mut fresh = [0; CHECKPOINT_BYTES];
-    let started = (by.start)(old, new, substitutes, 0, &mut fresh);
+    let started = (by.start)(old, new, substitutes, FIRST_SEARCH, 0, &mut fresh);
     assert_eq!(started, Answer::accepted(FRESH.len() as u64));
     let (resumed, last) = resume(by, given, &fresh[..FRESH.len()], 1000);
     assert!(resumed.is_accepted());
     let mut mapping = vec![0; MAX_VERTICES];
-    let read = (by.read_out)(old, new, substitutes, &last, &mut mapping);
+    let read = (by.read_out)(old, new, substitutes, FIRST_SEARCH, &last, &mut mapping);
     assert_eq!((read.number, read.value), (0, 3));
     assert_eq!(read.ceiling, resumed.ceiling);
     mapping.truncate((by.check_graph)(old).value as usize);
@@ -274,9 +275,9 @@ fn all_answers(by: &Implementation, substitutes: &[u8]) -> [Answer; 4] {
     let mut mapping = [0x55; MAX_VERTICES];
     let answers = [
         check(by, given, &[255]),
-        (by.start)(SEVEN, NINE, substitutes, 0, &mut checkpoint),
+        (by.start)(SEVEN, NINE, substitutes, FIRST_SEARCH, 0, &mut checkpoint),
         resume(by, given, FRESH, 1).0,
-        (by.read_out)(SEVEN, NINE, substitutes, FRESH, &mut mapping),
+        (by.read_out)(SEVEN, NINE, substitutes, FIRST_SEARCH, FRESH, &mut mapping),
     ];
     if !answers[1].is_accepted() {
         assert!(checkpoint.iter().all(|&byte| byte == 0x55));
@@ -375,9 +376,9 @@ fn a_graph_at_fault_comes_before_the_list() {
                 let mut few = [9; 3];
                 let answers = [
                     check(by, [old, new, list], &[9, 9]),
-                    (by.start)(old, new, list, 0, &mut []),
-                    (by.resume)(old, new, list, &[], 1, &mut few, &mut []),
-                    (by.read_out)(old, new, list, &[], &mut []),
+                    (by.start)(old, new, list, FIRST_SEARCH, 0, &mut []),
+                    (by.resume)(old, new, list, FIRST_SEARCH, &[], 1, &mut few, &mut []),
+                    (by.read_out)(old, new, list, FIRST_SEARCH, &[], &mut []),
                 ];
                 assert_eq!(answers, [expected; 4], "{} {list:?}", by.name);
             }
@@ -419,14 +420,23 @@ fn the_list_comes_before_all_else() {
             ];
             assert_eq!(check(by, unlike, &[0, 1]).number, number(22));
 
-            let start = (by.start)(SEVEN, NINE, list, 0, &mut []);
+            let start = (by.start)(SEVEN, NINE, list, FIRST_SEARCH, 0, &mut []);
             assert_eq!(start, refused(number(13)));
 
             let resumed = |checkpoint: &[u8], budget, words, room| {
                 let mut workspace = vec![9; words];
                 let mut next = vec![0x55; room];
                 let (words, room) = (&mut workspace, &mut next);
-                let answer = (by.resume)(SEVEN, NINE, list, checkpoint, budget, words, room);
+                let answer = (by.resume)(
+                    SEVEN,
+                    NINE,
+                    list,
+                    FIRST_SEARCH,
+                    checkpoint,
+                    budget,
+                    words,
+                    room,
+                );
                 assert!(workspace.iter().all(|&word| word == 9));
                 assert!(next.iter().all(|&byte| byte == 0x55));
                 answer.number
@@ -438,7 +448,7 @@ fn the_list_comes_before_all_else() {
             assert_eq!(resumed(HELD, 1, WORKSPACE_WORDS, 0), number(13));
 
             let read_out = |checkpoint: &[u8]| {
-                let answer = (by.read_out)(SEVEN, NINE, list, checkpoint, &mut []);
+                let answer = (by.read_out)(SEVEN, NINE, list, FIRST_SEARCH, checkpoint, &mut []);
                 assert_eq!((answer.steps, answer.size, answer.ceiling), (0, 0, 0));
                 answer.number
             };
@@ -469,7 +479,7 @@ fn the_path_is_in_shape_by_the_list() {
         ];
         for other in others {
             assert_eq!(resume(by, under(other), &checkpoint, 1).0, refused(14));
-            let read = (by.read_out)(SEVEN, NINE, other, &checkpoint, &mut []);
+            let read = (by.read_out)(SEVEN, NINE, other, FIRST_SEARCH, &checkpoint, &mut []);
             assert_eq!(read, refused(14), "{} {other:?}", by.name);
         }
     });
@@ -479,11 +489,11 @@ fn the_path_is_in_shape_by_the_list() {
 fn the_held_mapping_is_in_shape_by_the_list() {
     each(|by| {
         let mut mapping = [0x55; 1];
-        let read = (by.read_out)(SEVEN, NINE, &[7, 0, 9, 0], HELD, &mut mapping);
+        let read = (by.read_out)(SEVEN, NINE, &[7, 0, 9, 0], FIRST_SEARCH, HELD, &mut mapping);
         assert_eq!((read.number, read.value, read.size), (0, 1, 1));
         assert_eq!(mapping, [0]);
         let mut mapping = [0x55; 1];
-        let read = (by.read_out)(SEVEN, NINE, &[9, 0, 7, 0], HELD, &mut mapping);
+        let read = (by.read_out)(SEVEN, NINE, &[9, 0, 7, 0], FIRST_SEARCH, HELD, &mut mapping);
         assert_eq!(read, refused(14));
         assert_eq!(mapping, [0x55]);
         assert_eq!(resume(by, [SEVEN, NINE, &[]], HELD, 0).0, refused(14));

@@ -1,13 +1,15 @@
 -- How many numbers pass a test: the laws of the count.
-use mathlib.Core.Path.{_≡_, refl, ap₂}
-use mathlib.Core.Bool.{Bool, true, false, not, _&&_}
+use mathlib.Core.Path.{_≡_, refl, sym, ap₂, _∙_}
+use mathlib.Core.Bool.{Bool, true, false, not, _&&_, _||_}
 use mathlib.Core.Logic.{_↔_, _≢_, ⊎-elim}
 use Prim.Native.Nat.{ℕ, zero, suc, _+_, _≤_, _<_, zero-le}
 use native.Mathlib.Nat.{le-refl, add-le-add, not-suc-le-zero, le-of-suc-le-suc, eq-or-lt-of-le}
 use native.Mathlib.Omega.{arith}
 use borrow.Author.Count.{below-none, below-more}
-use Rattle.bitset.specs.Count.{countBelow}
+use Rattle.bitset.specs.Members.{member, setOf, unionOf, differenceOf}
+use Rattle.bitset.specs.Count.{countBelow, size}
 use Rattle.bitset.proofs.Membership.{digit}
+use Rattle.bitset.proofs.SetOf.{member-setOf}
 
 digit-le : (b : Bool) → digit b ≤ 1
 digit-le true = le-refl 1
@@ -77,3 +79,35 @@ countBelow-parts (suc k) t u = go (t k) (u k) (countBelow-parts k t u)
     go true true e = omega arith
     go true false e = omega arith
     go false b e = omega arith
+
+-- The numbers that pass one of two tests are at most those that pass the one and those that pass the other.
+pub countBelow-either : (k : ℕ) (t u : ℕ → Bool) → countBelow k (λ i. t i || u i) ≤ countBelow k t + countBelow k u
+unfolding countBelow
+countBelow-either zero t u = zero-le
+countBelow-either (suc k) t u = go (t k) (u k) (countBelow-either k t u)
+  where
+    go : (a b : Bool) → countBelow k (λ i. t i || u i) ≤ countBelow k t + countBelow k u
+        → countBelow k (λ i. t i || u i) + digit (a || b) ≤ (countBelow k t + digit a) + (countBelow k u + digit b)
+    go true true e = omega arith
+    go true false e = omega arith
+    go false b e = omega arith
+
+-- The set of a test has as many members as numbers pass.
+pub size-setOf : (t : ℕ → Bool) → size (setOf 64 t) ≡ countBelow 64 t
+size-setOf t = countBelow-congr 64 (member (setOf 64 t)) t (member-setOf 64 t)
+
+-- A union has at most the members of both sets,
+pub size-union : (a b : ℕ) → size (unionOf a b) ≤ size a + size b
+size-union a b = rw (size-setOf (λ i. member a i || member b i)) (countBelow-either 64 (member a) (member b))
+
+-- and a set has those of a part of it and those of the rest.
+pub size-part : (a b : ℕ) → ((i : ℕ) → i < 64 → member b i ≡ true → member a i ≡ true) → size b + size (differenceOf a b) ≡ size a
+size-part a b within =
+    ap₂ (λ (n m : ℕ). n + m) (countBelow-congr 64 (member b) (λ i. member a i && member b i) (λ i h. go (member a i) (member b i) (within i h)))
+    (size-setOf (λ i. member a i && not (member b i)))
+    ∙ countBelow-parts 64 (member a) (member b)
+  where
+    go : (x y : Bool) → (y ≡ true → x ≡ true) → y ≡ (x && y)
+    go true y h = refl
+    go false true h = sym (h refl)
+    go false false h = refl

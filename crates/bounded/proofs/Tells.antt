@@ -1,10 +1,10 @@
 -- What a test tells: it passes exactly when something holds.
 use mathlib.Core.Path.{_≡_, refl, sym, _∙_}
-use mathlib.Core.Logic.{_↔_, _⊎_, inl, inr, ⊎-elim}
+use mathlib.Core.Logic.{_↔_, _≢_, _⊎_, inl, inr, ⊎-elim}
 use mathlib.Core.Bool.{Bool, true, false, not, _&&_, _||_, Bool·beq, and-eq-true-iff, true≢false, false≢true}
 use Prim.Native.Nat.{ℕ, _≤_, _<_}
 use lib.Dec.{leb, ltb, eqb}
-use borrow.Author.Tests.{ltb-true, leb-true, eqb-true, lt-ltb, le-leb, eq-eqb}
+use borrow.Author.Tests.{ltb-true, leb-true, eqb-true, eqb-false, not-true, lt-ltb, le-leb, eq-eqb, ne-eqb}
 use Rattle.bounded.specs.Below.{allBelow}
 use Rattle.bounded.proofs.AllBelow.{allBelow-true, true-allBelow}
 
@@ -20,6 +20,10 @@ tells-lt a b = (ltb-true a b, lt-ltb a b)
 -- An equality test says that the numbers are equal.
 pub tells-eq : (a b : ℕ) → Tells (eqb a b) (a ≡ b)
 tells-eq a b = (eqb-true a b, eq-eqb a b)
+
+-- Its negation says that they differ.
+pub tells-ne : (a b : ℕ) → Tells (not (eqb a b)) (a ≢ b)
+tells-ne a b = (λ e. eqb-false a b (not-true (eqb a b) e), λ n. rw (ne-eqb a b n) refl)
 
 -- A test says of itself that it passes.
 pub tells-itself : (a : Bool) → Tells a (a ≡ true)

@@ -1,6 +1,6 @@
 -- The mission's third property of a search that is started and resumed through bytes, by recursion over the list of calls.
 use mathlib.Core.Path.{_≡_, refl, sym, ap, _∙_}
-use mathlib.Core.Bool.{true, false}
+use mathlib.Core.Bool.{Bool, true, false}
 use mathlib.Core.List.{List, [], _∷_, map}
 use Prim.Native.Nat.{ℕ, _≤_, _<_}
 use native.Mathlib.Omega.{arith}
@@ -33,31 +33,31 @@ use Rattle.c_api.specs.ResumedCall.{loadsTo}
 use Rattle.c_api.specs.ByteCalls.{ByteCall, resume, bytesAfter, bytesLeft, searchCallOf, searchCalls, ceilingOf, seenOf, seenBy, returned, startBytes, ThroughBytes}
 use Rattle.c_api.proofs.SearchWays.{SearchWays, kept, short, saved, search-ways}
 
-module _ (old new substitutes : List ℕ) (G : Problem) (graphs-read : readProblem old new ≡ read G) where
+module _ (old new substitutes : List ℕ) (connected : Bool) (G : Problem) (graphs-read : readProblem old new ≡ read G) where
   -- the problem that is searched: the graphs that were read, with the list
   abbrev P : Problem
   P = substituting substitutes G
 
-  module _ (bytes : List ℕ) (c : Checkpoint) (loads : loading P bytes ≡ loadsTo c) where
+  module _ (bytes : List ℕ) (c : Checkpoint) (loads : loading connected P bytes ≡ loadsTo c) where
     -- a call on bytes that load c is the search from c
-    resume-loaded : (x : ByteCall) → resume old new substitutes bytes x ≡ searchFrom P c (x .budget) (x .workspace) (x .next)
+    resume-loaded : (x : ByteCall) → resume old new substitutes connected bytes x ≡ searchFrom connected P c (x .budget) (x .workspace) (x .next)
     unfolding resuming resumeFrom
     resume-loaded x =
-        ap (λ (o : ReadOutcome). resumeOn o substitutes bytes (x .budget) (x .workspace) (x .next)) graphs-read
-        ∙ ap (λ (l : Loading). loadOn P l (x .budget) (x .workspace) (x .next)) loads
+        ap (λ (o : ReadOutcome). resumeOn o substitutes connected bytes (x .budget) (x .workspace) (x .next)) graphs-read
+        ∙ ap (λ (l : Loading). loadOn connected P l (x .budget) (x .workspace) (x .next)) loads
 
     -- one call: it is refused with 13, or it is a search call on c, and the next call's bytes load the checkpoint that this one leaves
     data Step (q : Called) (r : Resumed) : Type 0 where
       dropped : eqb (r .reply .number) 13 ≡ true → bytesAfter bytes r ≡ bytes → Step q r
-      made : eqb (r .reply .number) 13 ≡ false → seenBy r ≡ seenOf q → loading P (bytesAfter bytes r) ≡ loadsTo (q .checkpoint) → Step q r
+      made : eqb (r .reply .number) 13 ≡ false → seenBy r ≡ seenOf q → loading connected P (bytesAfter bytes r) ≡ loadsTo (q .checkpoint) → Step q r
 
-    step : SoundProblem P → Sized c → InShape P c → (x : ByteCall) → Step (called P c (searchCallOf x)) (resume old new substitutes bytes x)
-    step sound sized shape x = rw (resume-loaded x) (go _ (search-ways P c (searchCallOf x) (x .next) sound sized shape))
+    step : SoundProblem P → Sized c → InShape connected P c → (x : ByteCall) → Step (called connected P c (searchCallOf x)) (resume old new substitutes connected bytes x)
+    step sound sized shape x = rw (resume-loaded x) (go _ (search-ways connected P c (searchCallOf x) (x .next) sound sized shape))
       where
         q : Called
-        q = called P c (searchCallOf x)
+        q = called connected P c (searchCallOf x)
 
-        go : (r : Resumed) → SearchWays P c (searchCallOf x) (x .next) r → Step q r
+        go : (r : Resumed) → SearchWays connected P c (searchCallOf x) (x .next) r → Step q r
         go r (kept h z w k e) =
             let on : eqb (refusalNumber (q .answer)) 0 ≡ false = ne-eqb (refusalNumber (q .answer)) 0 (λ n. omega (arith, n, h .0)) in
             let off : eqb (refusalNumber (q .answer)) 13 ≡ false = ne-eqb (refusalNumber (q .answer)) 13 (λ n. omega (arith, n, h .2)) in
@@ -74,34 +74,34 @@ module _ (old new substitutes : List ℕ) (G : Problem) (graphs-read : readProbl
   -- from bytes that load c: the calls return what the search calls made give, and the bytes left load the checkpoint that these leave
   abbrev Follows : List ℕ → Checkpoint → List ByteCall → Type 0
   Follows bytes c calls =
-      (returned old new substitutes bytes calls ≡ map seenOf (results P c (searchCalls old new substitutes bytes calls)))
-      × (loading P (bytesLeft old new substitutes bytes calls) ≡ loadsTo (leaves P c (searchCalls old new substitutes bytes calls)))
+      (returned old new substitutes connected bytes calls ≡ map seenOf (results connected P c (searchCalls old new substitutes connected bytes calls)))
+      × (loading connected P (bytesLeft old new substitutes connected bytes calls) ≡ loadsTo (leaves connected P c (searchCalls old new substitutes connected bytes calls)))
 
-  follows : SoundProblem P → (bytes : List ℕ) (c : Checkpoint) → loading P bytes ≡ loadsTo c → Sized c → (calls : List ByteCall)
+  follows : SoundProblem P → (bytes : List ℕ) (c : Checkpoint) → loading connected P bytes ≡ loadsTo c → Sized c → (calls : List ByteCall)
       → Follows bytes c calls
   unfolding returned searchCalls bytesLeft results leaves
   follows sound bytes c loads sized [] = (refl, loads)
   follows sound bytes c loads sized (x ∷ later) =
       go (λ b d l s. follows sound b d l s later) (step bytes c loads sound sized shape x)
     where
-      shape : InShape P c
-      shape = rw loads at (load-in-shape P bytes (ap (λ (l : Loading). l .answer) loads) .1)
+      shape : InShape connected P c
+      shape = rw loads at (load-in-shape connected P bytes (ap (λ (l : Loading). l .answer) loads) .1)
 
       r : Resumed
-      r = resume old new substitutes bytes x
+      r = resume old new substitutes connected bytes x
 
-      go : ((b : List ℕ) (d : Checkpoint) → loading P b ≡ loadsTo d → Sized d → Follows b d later)
-          → Step bytes c loads (called P c (searchCallOf x)) r → Follows bytes c (x ∷ later)
+      go : ((b : List ℕ) (d : Checkpoint) → loading connected P b ≡ loadsTo d → Sized d → Follows b d later)
+          → Step bytes c loads (called connected P c (searchCallOf x)) r → Follows bytes c (x ∷ later)
       go rest (dropped t same) = rw (t, same) (rest bytes c loads sized)
       go rest (made f seen back) =
-          let q = called P c (searchCallOf x) in
-          let more = rest (bytesAfter bytes r) (q .checkpoint) back (called-sized P c sized (searchCallOf x)) in
+          let q = called connected P c (searchCallOf x) in
+          let more = rest (bytesAfter bytes r) (q .checkpoint) back (called-sized connected P c sized (searchCallOf x)) in
           rw f (rw (seen, more .0), more .1)
 
-module _ (old new substitutes : List ℕ) (minimum : ℕ) (buffer : List ℕ) where
+module _ (old new substitutes : List ℕ) (connected : Bool) (minimum : ℕ) (buffer : List ℕ) where
   -- Once a search is started, whatever calls follow obey the third property.
-  pub third-property-bytes : starting old new substitutes minimum buffer .reply .number ≡ 0
-      → ThroughBytes old new substitutes minimum (startBytes (starting old new substitutes minimum buffer))
+  pub third-property-bytes : starting old new substitutes connected minimum buffer .reply .number ≡ 0
+      → ThroughBytes old new substitutes connected minimum (startBytes (starting old new substitutes connected minimum buffer))
   unfolding starting
   third-property-bytes = go (readProblem old new) refl (outcome-refusing old new)
     where
@@ -111,41 +111,41 @@ module _ (old new substitutes : List ℕ) (minimum : ℕ) (buffer : List ℕ) wh
       -- an accepted save shows that the list is sound, as the graphs are
       on-save : (G : Problem) → readProblem old new ≡ read G
           → let P = substituting substitutes G in
-          (a : Answer) → saving P fresh buffer .answer ≡ a
-          → Ways Positive (Unit {0}) (saving P fresh buffer .buffer ≡ buffer) a → refusalNumber a ≡ 0
-          → ThroughBytes old new substitutes minimum (take (valueOf a) (saving P fresh buffer .buffer))
+          (a : Answer) → saving connected P fresh buffer .answer ≡ a
+          → Ways Positive (Unit {0}) (saving connected P fresh buffer .buffer ≡ buffer) a → refusalNumber a ≡ 0
+          → ThroughBytes old new substitutes connected minimum (take (valueOf a) (saving connected P fresh buffer .buffer))
       on-save G e passed s h z = absurd h
       on-save G e (accepted k) s h z =
           let P = substituting substitutes G in
-          let sound = passes-shape P fresh (saved-passed P fresh buffer k s) .0 in
-          let end = third-property-total P sound minimum in
-          let back = save-load-buffer P fresh buffer k (fresh-sized minimum) s in
+          let sound = passes-shape connected P fresh (saved-passed connected P fresh buffer k s) .0 in
+          let end = third-property-total connected P sound minimum in
+          let back = save-load-buffer connected P fresh buffer k (fresh-sized minimum) s in
           record {
             graphs = G;
             graphs-read = e;
             sound = sound;
             total = end .0;
             is-total = end .1;
-            property = λ calls. end .3 (searchCalls old new substitutes (take k (saving P fresh buffer .buffer)) calls);
-            returns = λ calls. follows old new substitutes G e sound _ fresh back (fresh-sized minimum) calls .0;
-            loads = λ calls. follows old new substitutes G e sound _ fresh back (fresh-sized minimum) calls .1;
+            property = λ calls. end .3 (searchCalls old new substitutes connected (take k (saving connected P fresh buffer .buffer)) calls);
+            returns = λ calls. follows old new substitutes connected G e sound _ fresh back (fresh-sized minimum) calls .0;
+            loads = λ calls. follows old new substitutes connected G e sound _ fresh back (fresh-sized minimum) calls .1;
           }
       on-save G e (refused n) s h z = absurd (omega (arith, h .0))
       on-save G e (refusedAt n at) s h z = absurd (omega (arith, h .0))
 
-      go : (g : ReadOutcome) → readProblem old new ≡ g → Refusing g → startOn g substitutes minimum buffer .reply .number ≡ 0
-          → ThroughBytes old new substitutes minimum (startBytes (startOn g substitutes minimum buffer))
-      go (read G) e h z = let P = substituting substitutes G in on-save G e (saving P fresh buffer .answer) refl (save-kept P fresh buffer) z
+      go : (g : ReadOutcome) → readProblem old new ≡ g → Refusing g → startOn g substitutes connected minimum buffer .reply .number ≡ 0
+          → ThroughBytes old new substitutes connected minimum (startBytes (startOn g substitutes connected minimum buffer))
+      go (read G) e h z = let P = substituting substitutes G in on-save G e (saving connected P fresh buffer .answer) refl (save-kept connected P fresh buffer) z
       go (refusal a) e h z = absurd (omega (arith, h .0))
 
 -- Below the cap, once the budgets of the calls that are not refused add up to the step limit that is told of the two orders, the search is finished (02, U5).
-module _ {old new substitutes bytes : List ℕ} {minimum : ℕ} (through : ThroughBytes old new substitutes minimum bytes) where
+module _ {old new substitutes : List ℕ} {connected : Bool} {bytes : List ℕ} {minimum : ℕ} (through : ThroughBytes old new substitutes connected minimum bytes) where
   pub limit-through-bytes : (v : ℕ) → foretold (through .graphs .new .order) (through .graphs .old .order) ≡ accepted v → v < cap
       → (calls : List ByteCall)
       → let P = substituting substitutes (through .graphs) in
-      let made = searchCalls old new substitutes bytes calls in
-      v ≤ spent P minimum made → reached P minimum made .finished ≡ true
+      let made = searchCalls old new substitutes connected bytes calls in
+      v ≤ spent connected P minimum made → reached connected P minimum made .finished ≡ true
   limit-through-bytes v told below calls enough =
       let P = substituting substitutes (through .graphs) in
-      limit-spent P (through .sound) minimum (searchCalls old new substitutes bytes calls)
+      limit-spent connected P (through .sound) minimum (searchCalls old new substitutes connected bytes calls)
       (rw (below-cap (through .graphs .new .order) (through .graphs .old .order) v told below) enough)

@@ -1,7 +1,7 @@
 -- With room for 270 bytes, or for the 64 of a mapping, or for the eight of one that clique branching holds, the number 13 does not occur, so that no visit
 -- is lost for want of it.
 use mathlib.Core.Path.{_≡_, refl}
-use mathlib.Core.Bool.{cond}
+use mathlib.Core.Bool.{Bool, cond}
 use mathlib.Core.List.{List}
 use mathlib.Core.Option.{Option, none, some}
 use Prim.Native.Nat.{ℕ, _≤_}
@@ -43,15 +43,15 @@ use Rattle.c_api.proofs.RefusalNumbers.{loading-plain}
 use Rattle.c_api.proofs.ResumedCall.{resume-goes}
 
 -- a save is not refused with 13 where there is room for 270 bytes
-save-fits : (P : Problem) (c : Checkpoint) (buffer : List ℕ) → maxBytes ≤ length buffer → refusalNumber (saving P c buffer .answer) ≡ 13 → ⊥
+save-fits : (connected : Bool) (P : Problem) (c : Checkpoint) (buffer : List ℕ) → maxBytes ≤ length buffer → refusalNumber (saving connected P c buffer .answer) ≡ 13 → ⊥
 unfolding saving
-save-fits P c buffer room = go (checkpointAnswer P c) refl (checkpoint-plain P c)
+save-fits connected P c buffer room = go (checkpointAnswer connected P c) refl (checkpoint-plain connected P c)
   where
-    go : (a : Answer) → checkpointAnswer P c ≡ a → Plain a
+    go : (a : Answer) → checkpointAnswer connected P c ≡ a → Plain a
         → refusalNumber (writeIf a (checkpointBytes (P .old .order) c) buffer .answer) ≡ 13 → ⊥
     go passed e h z =
-        let fine = passes-shape P c e in
-        let fits : length (checkpointBytes (P .old .order) c) ≤ length buffer = omega (arith, saved-max P (fine .0) c (fine .1), room) in
+        let fine = passes-shape connected P c e in
+        let fits : length (checkpointBytes (P .old .order) c) ≤ length buffer = omega (arith, saved-max connected P (fine .0) c (fine .1), room) in
         let none : _≡_ {A = ℕ} 0 13 = simp (le-leb _ _ fits) at z in
         omega arith
     go (accepted n) e h z = absurd h
@@ -59,42 +59,42 @@ save-fits P c buffer room = go (checkpointAnswer P c) refl (checkpoint-plain P c
     go (refusedAt n at) e h z = omega (arith, h .2)
 
 module _ (old new substitutes : List ℕ) where
-  module _ (minimum : ℕ) (buffer : List ℕ) where
+  module _ (connected : Bool) (minimum : ℕ) (buffer : List ℕ) where
     -- A search is started in any buffer of 270 bytes.
-    pub start-fits : maxBytes ≤ length buffer → starting old new substitutes minimum buffer .reply .number ≡ 13 → ⊥
+    pub start-fits : maxBytes ≤ length buffer → starting old new substitutes connected minimum buffer .reply .number ≡ 13 → ⊥
     unfolding starting
     start-fits room = go (readProblem old new) (outcome-refusing old new)
       where
-        go : (g : ReadOutcome) → Refusing g → startOn g substitutes minimum buffer .reply .number ≡ 13 → ⊥
-        go (read G) h z = save-fits (substituting substitutes G) (freshCheckpoint minimum) buffer room z
+        go : (g : ReadOutcome) → Refusing g → startOn g substitutes connected minimum buffer .reply .number ≡ 13 → ⊥
+        go (read G) h z = save-fits connected (substituting substitutes G) (freshCheckpoint minimum) buffer room z
         go (refusal a) h z = omega (arith, h .2)
 
   -- The visits of a resumed search are always saved into a buffer of 270 bytes.
-  pub no-visit-lost : (bytes : List ℕ) → Bytes bytes → (budget : ℕ) (workspace next : List ℕ) → maxBytes ≤ length next
-      → resuming old new substitutes bytes budget workspace next .reply .number ≡ 13 → ⊥
-  no-visit-lost bytes small budget workspace next room =
-      go (resuming old new substitutes bytes budget workspace next) (resume-goes old new substitutes bytes budget workspace next small)
+  pub no-visit-lost : (connected : Bool) (bytes : List ℕ) → Bytes bytes → (budget : ℕ) (workspace next : List ℕ) → maxBytes ≤ length next
+      → resuming old new substitutes connected bytes budget workspace next .reply .number ≡ 13 → ⊥
+  no-visit-lost connected bytes small budget workspace next room =
+      go (resuming old new substitutes connected bytes budget workspace next) (resume-goes old new substitutes connected bytes budget workspace next small)
     where
-      go : (r : Resumed) → ResumedCall old new substitutes bytes budget workspace next r → r .reply .number ≡ 13 → ⊥
+      go : (r : Resumed) → ResumedCall old new substitutes connected bytes budget workspace next r → r .reply .number ≡ 13 → ⊥
       go r (turned refuses never) z = never z
       go r (short s) z =
           let P = substituting substitutes (s .searched .graphs) in
-          let found = load-in-shape P bytes (s .searched .loaded) in
-          let sized = load-sized P bytes small (s .searched .loaded) in
-          let left = called-in-shape P _ sized (record { budget = budget; workspace = workspace }) (found .1) in
-          omega (arith, s .too-short, room, saved-max P (found .0) _ left)
+          let found = load-in-shape connected P bytes (s .searched .loaded) in
+          let sized = load-sized connected P bytes small (s .searched .loaded) in
+          let left = called-in-shape connected P _ sized (record { budget = budget; workspace = workspace }) (found .1) in
+          omega (arith, s .too-short, room, saved-max connected P (found .0) _ left)
       go r (advanced a) z = omega (arith, a .number)
 
   -- A held mapping always fits into 64 bytes.
-  pub read-out-fits : (bytes mapping : List ℕ) → 64 ≤ length mapping → readingOut old new substitutes bytes mapping .reply .number ≡ 13 → ⊥
+  pub read-out-fits : (connected : Bool) (bytes mapping : List ℕ) → 64 ≤ length mapping → readingOut old new substitutes connected bytes mapping .reply .number ≡ 13 → ⊥
   unfolding readingOut readBytes readCheckpoint
-  read-out-fits bytes mapping room = go (readProblem old new) (outcome-refusing old new)
+  read-out-fits connected bytes mapping room = go (readProblem old new) (outcome-refusing old new)
     where
-      read-fits : (P : Problem) (a : Answer) → loading P bytes .answer ≡ a → Plain a
-          → readLoaded P (record { answer = a; checkpoint = loading P bytes .checkpoint }) mapping .reply .number ≡ 13 → ⊥
-      read-fits P passed e h z =
-          let c = loading P bytes .checkpoint in
-          let sound = load-in-shape P bytes e .0 in
+      read-fits : (connected : Bool) (P : Problem) (a : Answer) → loading connected P bytes .answer ≡ a → Plain a
+          → readLoaded connected P (record { answer = a; checkpoint = loading connected P bytes .checkpoint }) mapping .reply .number ≡ 13 → ⊥
+      read-fits connected P passed e h z =
+          let c = loading connected P bytes .checkpoint in
+          let sound = load-in-shape connected P bytes e .0 in
           let fits : length (heldIn P c) ≤ length mapping =
           omega (
             arith,
@@ -105,12 +105,12 @@ module _ (old new substitutes : List ℕ) where
           ) in
           let none : _≡_ {A = ℕ} 0 13 = simp (le-leb _ _ fits) at z in
           omega arith
-      read-fits P (accepted n) e h z = absurd h
-      read-fits P (refused n) e h z = omega (arith, h .2)
-      read-fits P (refusedAt n at) e h z = omega (arith, h .2)
+      read-fits connected P (accepted n) e h z = absurd h
+      read-fits connected P (refused n) e h z = omega (arith, h .2)
+      read-fits connected P (refusedAt n at) e h z = omega (arith, h .2)
 
-      go : (g : ReadOutcome) → Refusing g → readOutOn g substitutes bytes mapping .reply .number ≡ 13 → ⊥
-      go (read G) h z = let P = substituting substitutes G in read-fits P (loading P bytes .answer) refl (loading-plain P bytes) z
+      go : (g : ReadOutcome) → Refusing g → readOutOn g substitutes connected bytes mapping .reply .number ≡ 13 → ⊥
+      go (read G) h z = let P = substituting substitutes G in read-fits connected P (loading connected P bytes .answer) refl (loading-plain connected P bytes) z
       go (refusal a) h z = omega (arith, h .2)
 
   module _ (minimum : ℕ) (mapping : List ℕ) where

@@ -1,5 +1,6 @@
 -- What each exported function on two graphs returns, arm by arm: two graphs of which one is refused, two graphs that are read.
 use mathlib.Core.Path.{_≡_, ap, _∙_}
+use mathlib.Core.Bool.{Bool}
 use mathlib.Core.List.{List}
 use Prim.Native.Nat.{ℕ}
 use Rattle.answers.specs.Answer.{Answer}
@@ -37,45 +38,45 @@ module _ (old new substitutes : List ℕ) where
     unfolding checkingMapping
     check-read P e x o p q = p ∙ ap checkedBy q ∙ ap (λ (r : ReadOutcome). checkOn r substitutes l) e
 
-  module _ (minimum : ℕ) (buffer : List ℕ) where
+  module _ (connected : Bool) (minimum : ℕ) (buffer : List ℕ) where
     pub start-refused : (t : Reply) (a : Answer) → t ≡ replyOf a → refusal a ≡ readProblem old new
-        → wrote t buffer ≡ starting old new substitutes minimum buffer
+        → wrote t buffer ≡ starting old new substitutes connected minimum buffer
     unfolding starting
-    start-refused t a p e = ap (λ (x : Reply). wrote x buffer) p ∙ ap (λ (o : ReadOutcome). startOn o substitutes minimum buffer) e
+    start-refused t a p e = ap (λ (x : Reply). wrote x buffer) p ∙ ap (λ (o : ReadOutcome). startOn o substitutes connected minimum buffer) e
 
     pub start-read : (P : Problem) → read P ≡ readProblem old new → (t : Reply) (s : SaveAnswer) (after : List ℕ) (c : Checkpoint)
-        → t ≡ replyOf (saveAnswer s) → savingOf s after ≡ saving (substituting substitutes P) c buffer → c ≡ freshCheckpoint minimum
-        → wrote t after ≡ starting old new substitutes minimum buffer
+        → t ≡ replyOf (saveAnswer s) → savingOf s after ≡ saving connected (substituting substitutes P) c buffer → c ≡ freshCheckpoint minimum
+        → wrote t after ≡ starting old new substitutes connected minimum buffer
     unfolding starting
     start-read P e t s after c p q f =
         ap (λ (x : Reply). wrote x after) p
         ∙ ap wroteBy q
-        ∙ ap (λ (x : Checkpoint). wroteBy (saving (substituting substitutes P) x buffer)) f
-        ∙ ap (λ (o : ReadOutcome). startOn o substitutes minimum buffer) e
+        ∙ ap (λ (x : Checkpoint). wroteBy (saving connected (substituting substitutes P) x buffer)) f
+        ∙ ap (λ (o : ReadOutcome). startOn o substitutes connected minimum buffer) e
 
-  module _ (bytes : List ℕ) (budget : ℕ) (workspace next : List ℕ) where
+  module _ (connected : Bool) (bytes : List ℕ) (budget : ℕ) (workspace next : List ℕ) where
     pub resume-refused : (t : Reply) (a : Answer) → t ≡ replyOf a → refusal a ≡ readProblem old new
-        → resumed t 0 workspace next ≡ resuming old new substitutes bytes budget workspace next
+        → resumed t 0 workspace next ≡ resuming old new substitutes connected bytes budget workspace next
     unfolding resuming
     resume-refused t a p e =
-        ap (λ (x : Reply). resumed x 0 workspace next) p ∙ ap (λ (o : ReadOutcome). resumeOn o substitutes bytes budget workspace next) e
+        ap (λ (x : Reply). resumed x 0 workspace next) p ∙ ap (λ (o : ReadOutcome). resumeOn o substitutes connected bytes budget workspace next) e
 
     pub resume-read : (P : Problem) → read P ≡ readProblem old new → (r : ResumeReply) (words after : List ℕ)
-        → resumed (r .reply) (r .ceiling) words after ≡ resumeFrom (substituting substitutes P) bytes budget workspace next
-        → resumed (r .reply) (r .ceiling) words after ≡ resuming old new substitutes bytes budget workspace next
+        → resumed (r .reply) (r .ceiling) words after ≡ resumeFrom connected (substituting substitutes P) bytes budget workspace next
+        → resumed (r .reply) (r .ceiling) words after ≡ resuming old new substitutes connected bytes budget workspace next
     unfolding resuming
-    resume-read P e r words after p = p ∙ ap (λ (o : ReadOutcome). resumeOn o substitutes bytes budget workspace next) e
+    resume-read P e r words after p = p ∙ ap (λ (o : ReadOutcome). resumeOn o substitutes connected bytes budget workspace next) e
 
-  module _ (bytes mapping : List ℕ) where
+  module _ (connected : Bool) (bytes mapping : List ℕ) where
     pub read-out-refused : (t : Reply) (a : Answer) → t ≡ replyOf a → refusal a ≡ readProblem old new
-        → notReadOut mapping t ≡ readingOut old new substitutes bytes mapping
+        → notReadOut mapping t ≡ readingOut old new substitutes connected bytes mapping
     unfolding readingOut
-    read-out-refused t a p e = ap (notReadOut mapping) p ∙ ap (λ (o : ReadOutcome). readOutOn o substitutes bytes mapping) e
+    read-out-refused t a p e = ap (notReadOut mapping) p ∙ ap (λ (o : ReadOutcome). readOutOn o substitutes connected bytes mapping) e
 
-    pub read-out-read : (P : Problem) → read P ≡ readProblem old new → (x : ReadOut) → x ≡ readBytes (substituting substitutes P) bytes mapping
-        → x ≡ readingOut old new substitutes bytes mapping
+    pub read-out-read : (P : Problem) → read P ≡ readProblem old new → (x : ReadOut) → x ≡ readBytes connected (substituting substitutes P) bytes mapping
+        → x ≡ readingOut old new substitutes connected bytes mapping
     unfolding readingOut
-    read-out-read P e x p = p ∙ ap (λ (o : ReadOutcome). readOutOn o substitutes bytes mapping) e
+    read-out-read P e x p = p ∙ ap (λ (o : ReadOutcome). readOutOn o substitutes connected bytes mapping) e
 
   module _ (minimum : ℕ) (mapping : List ℕ) where
     pub clique-refused : (t : Reply) (a : Answer) → t ≡ replyOf a → refusal a ≡ readProblem old new

@@ -1,5 +1,6 @@
 -- How a resumed search goes: refused, 13 last and only where the bytes do not fit, or saved.
 use mathlib.Core.Path.{_≡_, refl, ap}
+use mathlib.Core.Bool.{Bool}
 use mathlib.Core.List.{List}
 use Prim.Native.Nat.{ℕ}
 use native.Mathlib.Omega.{arith}
@@ -21,10 +22,10 @@ use Rattle.c_api.specs.ResumedCall.{ResumedCall, refused as turned, shor
 use Rattle.c_api.proofs.SearchWays.{SearchWays, kept, short as unsaved, saved, search-ways}
 use Rattle.c_api.proofs.RefusalNumbers.{loading-plain}
 
-module _ (old new substitutes bytes : List ℕ) (budget : ℕ) (workspace next : List ℕ) where
+module _ (old new substitutes : List ℕ) (connected : Bool) (bytes : List ℕ) (budget : ℕ) (workspace next : List ℕ) where
   -- how this call goes
   abbrev Goes : Resumed → Type 0
-  Goes = ResumedCall old new substitutes bytes budget workspace next
+  Goes = ResumedCall old new substitutes connected bytes budget workspace next
 
   -- a refusal that is handed on
   turned-away : (a : Answer) → RefusalNumber (refusalNumber a) → Goes (notResumed workspace next a)
@@ -35,19 +36,19 @@ module _ (old new substitutes bytes : List ℕ) (budget : ℕ) (workspace next :
     abbrev P : Problem
     P = substituting substitutes G
 
-    search-goes : loading P bytes .answer ≡ passed → Goes (searchFrom P (loading P bytes .checkpoint) budget workspace next)
+    search-goes : loading connected P bytes .answer ≡ passed → Goes (searchFrom connected P (loading connected P bytes .checkpoint) budget workspace next)
     search-goes loaded =
-        let found = load-in-shape P bytes loaded in
-        go (searchFrom P c budget workspace next) (search-ways P c call next (found .0) (load-sized P bytes small loaded) (found .1))
+        let found = load-in-shape connected P bytes loaded in
+        go (searchFrom connected P c budget workspace next) (search-ways connected P c call next (found .0) (load-sized connected P bytes small loaded) (found .1))
       where
         c : Checkpoint
-        c = loading P bytes .checkpoint
+        c = loading connected P bytes .checkpoint
 
         call : Call
         call = record { budget = budget; workspace = workspace }
 
-        go : (r : Resumed) → SearchWays P c call next r → Goes r
-        go r (kept h z w k e) = rw e (turned-away (called P c call .answer) h)
+        go : (r : Resumed) → SearchWays connected P c call next r → Goes r
+        go r (kept h z w k e) = rw e (turned-away (called connected P c call .answer) h)
         go r (unsaved n a few e) =
             rw e
             (short (record {
@@ -64,22 +65,22 @@ module _ (old new substitutes bytes : List ℕ) (budget : ℕ) (workspace next :
               saved = rw told back;
             })
 
-    load-goes : Goes (resumeFrom P bytes budget workspace next)
+    load-goes : Goes (resumeFrom connected P bytes budget workspace next)
     unfolding resumeFrom
-    load-goes = go (loading P bytes .answer) refl (loading-plain P bytes)
+    load-goes = go (loading connected P bytes .answer) refl (loading-plain connected P bytes)
       where
-        go : (a : Answer) → loading P bytes .answer ≡ a → Plain a
-            → Goes (loadOn P (record { answer = a; checkpoint = loading P bytes .checkpoint }) budget workspace next)
+        go : (a : Answer) → loading connected P bytes .answer ≡ a → Plain a
+            → Goes (loadOn connected P (record { answer = a; checkpoint = loading connected P bytes .checkpoint }) budget workspace next)
         go passed e h = search-goes e
         go (accepted n) e h = absurd h
         go (refused n) e h = turned-away (refused n) h
         go (refusedAt n at) e h = turned-away (refusedAt n at) h
 
   -- 13 is told only where the bytes do not fit, and the bytes of an accepted resume load back to the checkpoint that its search call left.
-  pub resume-goes : Bytes bytes → ResumedCall old new substitutes bytes budget workspace next (resuming old new substitutes bytes budget workspace next)
+  pub resume-goes : Bytes bytes → ResumedCall old new substitutes connected bytes budget workspace next (resuming old new substitutes connected bytes budget workspace next)
   unfolding resuming
   resume-goes small = go (readProblem old new) refl (outcome-refusing old new)
     where
-      go : (g : ReadOutcome) → readProblem old new ≡ g → Refusing g → Goes (resumeOn g substitutes bytes budget workspace next)
+      go : (g : ReadOutcome) → readProblem old new ≡ g → Refusing g → Goes (resumeOn g substitutes connected bytes budget workspace next)
       go (read G) e h = load-goes small G e
       go (refusal a) e h = turned-away a h

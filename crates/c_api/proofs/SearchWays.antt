@@ -1,4 +1,5 @@
 -- How a search call from a checkpoint in shape goes, with its checkpoint saved: refused, too short a buffer, or saved.
+use mathlib.Core.Bool.{Bool}
 use mathlib.Core.Path.{_≡_, refl, sym, subst}
 use mathlib.Core.List.{List}
 use Prim.Native.Nat.{ℕ, _≤_, _<_}
@@ -28,42 +29,42 @@ use Rattle.replies.proofs.CallKept.{Ways, search-kept}
 use Rattle.c_api.specs.ResumedCall.{loadsTo}
 use Rattle.c_api.specs.ByteCalls.{ceilingOf}
 
-module _ (P : Problem) (c : Checkpoint) (call : Call) (next : List ℕ) where
+module _ (connected : Bool) (P : Problem) (c : Checkpoint) (call : Call) (next : List ℕ) where
   -- the bytes to be saved
   abbrev pub toSave : List ℕ
-  toSave = checkpointBytes (P .old .order) (called P c call .checkpoint)
+  toSave = checkpointBytes (P .old .order) (called connected P c call .checkpoint)
 
   pub data SearchWays (r : Resumed) : Type 0 where
     -- the search call is refused
-    kept : RefusalNumber (refusalNumber (called P c call .answer)) → ceilingOf (called P c call .answer) ≡ 0
-        → called P c call .workspace ≡ call .workspace → called P c call .checkpoint ≡ c
-        → r ≡ notResumed (call .workspace) next (called P c call .answer) → SearchWays r
+    kept : RefusalNumber (refusalNumber (called connected P c call .answer)) → ceilingOf (called connected P c call .answer) ≡ 0
+        → called connected P c call .workspace ≡ call .workspace → called connected P c call .checkpoint ≡ c
+        → r ≡ notResumed (call .workspace) next (called connected P c call .answer) → SearchWays r
     -- it is accepted, and the buffer is too short
-    short : (ceiling : ℕ) → called P c call .answer ≡ accepted ceiling → length next < length toSave
+    short : (ceiling : ℕ) → called connected P c call .answer ≡ accepted ceiling → length next < length toSave
         → r ≡ notResumed (call .workspace) next (refused 13) → SearchWays r
     -- it is accepted and saved
-    saved : (ceiling count : ℕ) → called P c call .answer ≡ accepted ceiling → r .reply ≡ reply 0 count → r .ceiling ≡ ceiling
-        → r .workspace ≡ called P c call .workspace → loading P (take count (r .next)) ≡ loadsTo (called P c call .checkpoint) → SearchWays r
+    saved : (ceiling count : ℕ) → called connected P c call .answer ≡ accepted ceiling → r .reply ≡ reply 0 count → r .ceiling ≡ ceiling
+        → r .workspace ≡ called connected P c call .workspace → loading connected P (take count (r .next)) ≡ loadsTo (called connected P c call .checkpoint) → SearchWays r
 
-  module _ (sound : SoundProblem P) (sized : Sized c) (shape : InShape P c) where
+  module _ (sound : SoundProblem P) (sized : Sized c) (shape : InShape connected P c) where
     -- what the call leaves is in shape, so that only the room is tested
-    filled : saving P (called P c call .checkpoint) next ≡ fill toSave next
+    filled : saving connected P (called connected P c call .checkpoint) next ≡ fill toSave next
     unfolding saving
-    filled = rw (shape-passes P (called P c call .checkpoint) sound (called-in-shape P c sized call shape))
+    filled = rw (shape-passes connected P (called connected P c call .checkpoint) sound (called-in-shape connected P c sized call shape))
 
     -- the buffer's front loads back
-    loads-back : loading P (take (length toSave) (overwrite toSave next)) ≡ loadsTo (called P c call .checkpoint)
+    loads-back : loading connected P (take (length toSave) (overwrite toSave next)) ≡ loadsTo (called connected P c call .checkpoint)
     loads-back =
         rw (take-at toSave (drop (length toSave) next) (length toSave) refl)
-        (save-load P sound (called P c call .checkpoint) (called-sized P c sized call) (called-in-shape P c sized call shape))
+        (save-load connected P sound (called connected P c call .checkpoint) (called-sized connected P c sized call) (called-in-shape connected P c sized call shape))
 
     -- The call goes one of the three ways.
-    pub search-ways : SearchWays (searchFrom P c (call .budget) (call .workspace) next)
+    pub search-ways : SearchWays (searchFrom connected P c (call .budget) (call .workspace) next)
     unfolding searchFrom
-    search-ways = go (called P c call .answer) refl (search-kept P c (call .budget) (call .workspace))
+    search-ways = go (called connected P c call .answer) refl (search-kept connected P c (call .budget) (call .workspace))
       where
         q : Called
-        q = called P c call
+        q = called connected P c call
 
         -- the reply to an accepted call, by what became of its save
         On : ℕ → Writing → Type 0
@@ -74,7 +75,7 @@ module _ (P : Problem) (c : Checkpoint) (call : Call) (next : List ℕ) where
         go : (a : Answer) → q .answer ≡ a
             → Ways RefusalNumber ((wordsNeeded ≤ length (call .workspace)) × (q .workspace ≡ cleared (call .workspace)))
             ((q .workspace ≡ call .workspace) × (q .checkpoint ≡ c)) a
-            → SearchWays (saveOn P (record { answer = a; checkpoint = q .checkpoint; workspace = q .workspace }) (call .workspace) next)
+            → SearchWays (saveOn connected P (record { answer = a; checkpoint = q .checkpoint; workspace = q .workspace }) (call .workspace) next)
         go passed e h = absurd h
         go (accepted n) e h =
             subst (On n) (sym filled)

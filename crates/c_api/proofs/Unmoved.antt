@@ -1,4 +1,5 @@
 -- A refused call leaves what was lent as it was, whatever its length and whatever else was lent.
+use mathlib.Core.Bool.{Bool}
 use mathlib.Core.Path.{_≡_, refl}
 use mathlib.Core.List.{List}
 use mathlib.Core.Option.{Option, none, some}
@@ -27,28 +28,28 @@ use Rattle.c_api.specs.ReadOut.{readOutOn, readingOut}
 use Rattle.c_api.specs.Branching.{branchOn, branching}
 
 module _ (old new substitutes : List ℕ) where
-  pub start-unmoved : (minimum : ℕ) (buffer : List ℕ) → 1 ≤ starting old new substitutes minimum buffer .reply .number
-      → starting old new substitutes minimum buffer .buffer ≡ buffer
+  pub start-unmoved : (connected : Bool) (minimum : ℕ) (buffer : List ℕ) → 1 ≤ starting old new substitutes connected minimum buffer .reply .number
+      → starting old new substitutes connected minimum buffer .buffer ≡ buffer
   unfolding starting
-  start-unmoved minimum buffer = go (readProblem old new)
+  start-unmoved connected minimum buffer = go (readProblem old new)
     where
-      on-save : (P : Problem) (a : Answer) → Ways Positive (Unit {0}) (saving P (freshCheckpoint minimum) buffer .buffer ≡ buffer) a
-          → 1 ≤ refusalNumber a → saving P (freshCheckpoint minimum) buffer .buffer ≡ buffer
-      on-save P passed h z = absurd h
-      on-save P (accepted n) h z = absurd (omega arith)
-      on-save P (refused n) h z = h .1
-      on-save P (refusedAt n at) h z = h .1
+      on-save : (connected : Bool) (P : Problem) (a : Answer) → Ways Positive (Unit {0}) (saving connected P (freshCheckpoint minimum) buffer .buffer ≡ buffer) a
+          → 1 ≤ refusalNumber a → saving connected P (freshCheckpoint minimum) buffer .buffer ≡ buffer
+      on-save connected P passed h z = absurd h
+      on-save connected P (accepted n) h z = absurd (omega arith)
+      on-save connected P (refused n) h z = h .1
+      on-save connected P (refusedAt n at) h z = h .1
 
-      go : (g : ReadOutcome) → 1 ≤ startOn g substitutes minimum buffer .reply .number → startOn g substitutes minimum buffer .buffer ≡ buffer
+      go : (g : ReadOutcome) → 1 ≤ startOn g substitutes connected minimum buffer .reply .number → startOn g substitutes connected minimum buffer .buffer ≡ buffer
       go (read G) z =
           let P = substituting substitutes G in
-          on-save P (saving P (freshCheckpoint minimum) buffer .answer) (save-kept P (freshCheckpoint minimum) buffer) z
+          on-save connected P (saving connected P (freshCheckpoint minimum) buffer .answer) (save-kept connected P (freshCheckpoint minimum) buffer) z
       go (refusal a) z = refl
 
-  pub resume-unmoved : (bytes : List ℕ) (budget : ℕ) (workspace next : List ℕ)
-      → let r = resuming old new substitutes bytes budget workspace next in 1 ≤ r .reply .number → (r .workspace ≡ workspace) × (r .next ≡ next)
+  pub resume-unmoved : (connected : Bool) (bytes : List ℕ) (budget : ℕ) (workspace next : List ℕ)
+      → let r = resuming old new substitutes connected bytes budget workspace next in 1 ≤ r .reply .number → (r .workspace ≡ workspace) × (r .next ≡ next)
   unfolding resuming resumeFrom searchFrom
-  resume-unmoved bytes budget workspace next = on-graphs (readProblem old new)
+  resume-unmoved connected bytes budget workspace next = on-graphs (readProblem old new)
     where
       Keeps : Resumed → Type 0
       Keeps r = 1 ≤ r .reply .number → (r .workspace ≡ workspace) × (r .next ≡ next)
@@ -60,42 +61,42 @@ module _ (old new substitutes : List ℕ) where
       on-save q ceiling w (refused n) z = (refl, refl)
       on-save q ceiling w (refusedAt n at) z = (refl, refl)
 
-      on-search : (P : Problem) (q : Called) (a : Answer)
-          → Keeps (saveOn P (record { answer = a; checkpoint = q .checkpoint; workspace = q .workspace }) workspace next)
-      on-search P q passed z = (refl, refl)
-      on-search P q (accepted ceiling) z =
-          let w = saving P (q .checkpoint) next in on-save q ceiling w (w .answer) z
-      on-search P q (refused n) z = (refl, refl)
-      on-search P q (refusedAt n at) z = (refl, refl)
+      on-search : (connected : Bool) (P : Problem) (q : Called) (a : Answer)
+          → Keeps (saveOn connected P (record { answer = a; checkpoint = q .checkpoint; workspace = q .workspace }) workspace next)
+      on-search connected P q passed z = (refl, refl)
+      on-search connected P q (accepted ceiling) z =
+          let w = saving connected P (q .checkpoint) next in on-save q ceiling w (w .answer) z
+      on-search connected P q (refused n) z = (refl, refl)
+      on-search connected P q (refusedAt n at) z = (refl, refl)
 
-      on-load : (P : Problem) (l : Loading) (a : Answer)
-          → Keeps (loadOn P (record { answer = a; checkpoint = l .checkpoint }) budget workspace next)
-      on-load P l passed z = let q = searchCall P (l .checkpoint) budget workspace in on-search P q (q .answer) z
-      on-load P l (accepted n) z = (refl, refl)
-      on-load P l (refused n) z = (refl, refl)
-      on-load P l (refusedAt n at) z = (refl, refl)
+      on-load : (connected : Bool) (P : Problem) (l : Loading) (a : Answer)
+          → Keeps (loadOn connected P (record { answer = a; checkpoint = l .checkpoint }) budget workspace next)
+      on-load connected P l passed z = let q = searchCall connected P (l .checkpoint) budget workspace in on-search connected P q (q .answer) z
+      on-load connected P l (accepted n) z = (refl, refl)
+      on-load connected P l (refused n) z = (refl, refl)
+      on-load connected P l (refusedAt n at) z = (refl, refl)
 
-      on-graphs : (g : ReadOutcome) → Keeps (resumeOn g substitutes bytes budget workspace next)
-      on-graphs (read G) z = let P = substituting substitutes G in on-load P (loading P bytes) (loading P bytes .answer) z
+      on-graphs : (g : ReadOutcome) → Keeps (resumeOn g substitutes connected bytes budget workspace next)
+      on-graphs (read G) z = let P = substituting substitutes G in on-load connected P (loading connected P bytes) (loading connected P bytes .answer) z
       on-graphs (refusal a) z = (refl, refl)
 
-  pub read-out-unmoved : (bytes mapping : List ℕ) → 1 ≤ readingOut old new substitutes bytes mapping .reply .number
-      → readingOut old new substitutes bytes mapping .mapping ≡ mapping
+  pub read-out-unmoved : (connected : Bool) (bytes mapping : List ℕ) → 1 ≤ readingOut old new substitutes connected bytes mapping .reply .number
+      → readingOut old new substitutes connected bytes mapping .mapping ≡ mapping
   unfolding readingOut readBytes readCheckpoint
-  read-out-unmoved bytes mapping = on-graphs (readProblem old new)
+  read-out-unmoved connected bytes mapping = on-graphs (readProblem old new)
     where
       Keeps : ReadOut → Type 0
       Keeps r = 1 ≤ r .reply .number → r .mapping ≡ mapping
 
-      on-load : (P : Problem) (l : Loading) (a : Answer) → Keeps (readLoaded P (record { answer = a; checkpoint = l .checkpoint }) mapping)
-      on-load P l passed z =
+      on-load : (connected : Bool) (P : Problem) (l : Loading) (a : Answer) → Keeps (readLoaded connected P (record { answer = a; checkpoint = l .checkpoint }) mapping)
+      on-load connected P l passed z =
           either Keeps (leb (length (heldIn P (l .checkpoint))) (length mapping)) (λ y. absurd (omega arith)) (λ y. refl) z
-      on-load P l (accepted n) z = refl
-      on-load P l (refused n) z = refl
-      on-load P l (refusedAt n at) z = refl
+      on-load connected P l (accepted n) z = refl
+      on-load connected P l (refused n) z = refl
+      on-load connected P l (refusedAt n at) z = refl
 
-      on-graphs : (g : ReadOutcome) → Keeps (readOutOn g substitutes bytes mapping)
-      on-graphs (read G) z = let P = substituting substitutes G in on-load P (loading P bytes) (loading P bytes .answer) z
+      on-graphs : (g : ReadOutcome) → Keeps (readOutOn g substitutes connected bytes mapping)
+      on-graphs (read G) z = let P = substituting substitutes G in on-load connected P (loading connected P bytes) (loading connected P bytes .answer) z
       on-graphs (refusal a) z = refl
 
   pub clique-unmoved : (minimum : ℕ) (mapping : List ℕ) → 1 ≤ branching old new substitutes minimum mapping .reply .number

@@ -1,7 +1,7 @@
 -- A search started and then resumed any number of times through checkpoint bytes, and the mission's third property of it: 01, "Bookmark and calls", third
 -- paragraph, "one claim about the whole list of search calls".
 use mathlib.Core.Path.{_≡_}
-use mathlib.Core.Bool.{cond}
+use mathlib.Core.Bool.{Bool, cond}
 use mathlib.Core.List.{List, [], _∷_, map}
 use Prim.Native.Nat.{ℕ}
 use lib.Dec.{eqb}
@@ -58,10 +58,10 @@ seenBy r = record { number = r .reply .number; ceiling = r .ceiling; workspace =
 abbrev pub startBytes : Wrote → List ℕ
 startBytes s = take (s .reply .value) (s .buffer)
 
--- 02, U1: calls that resume one another take the same list, as they take the same two graphs
-module _ (old new substitutes : List ℕ) where
+-- 02, U1 and U7: calls that resume one another take the same list, as they take the same two graphs, and are of the same search
+module _ (old new substitutes : List ℕ) (connected : Bool) where
   abbrev pub resume : List ℕ → ByteCall → Resumed
-  resume bytes x = resuming old new substitutes bytes (x .budget) (x .workspace) (x .next)
+  resume bytes x = resuming old new substitutes connected bytes (x .budget) (x .workspace) (x .next)
 
   -- the bytes after the last call
   unfoldable pub bytesLeft : List ℕ → List ByteCall → List ℕ
@@ -85,10 +85,10 @@ module _ (old new substitutes : List ℕ) where
     pub graphs-read : readProblem old new ≡ read graphs
     pub sound : SoundProblem (substituting substitutes graphs)
     pub total : ℕ
-    pub is-total : IsTotal (searchOf (substituting substitutes graphs)) minimum total
-    pub property : (calls : List ByteCall) → ThirdProperty (substituting substitutes graphs) minimum total (searchCalls bytes calls)
+    pub is-total : IsTotal (searchOf connected (substituting substitutes graphs)) minimum total
+    pub property : (calls : List ByteCall) → ThirdProperty connected (substituting substitutes graphs) minimum total (searchCalls bytes calls)
     pub returns : (calls : List ByteCall)
-        → returned bytes calls ≡ map seenOf (results (substituting substitutes graphs) (freshCheckpoint minimum) (searchCalls bytes calls))
+        → returned bytes calls ≡ map seenOf (results connected (substituting substitutes graphs) (freshCheckpoint minimum) (searchCalls bytes calls))
     pub loads : (calls : List ByteCall)
-        → loading (substituting substitutes graphs) (bytesLeft bytes calls)
-        ≡ loadsTo (reached (substituting substitutes graphs) minimum (searchCalls bytes calls))
+        → loading connected (substituting substitutes graphs) (bytesLeft bytes calls)
+        ≡ loadsTo (reached connected (substituting substitutes graphs) minimum (searchCalls bytes calls))

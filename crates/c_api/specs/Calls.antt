@@ -1,6 +1,9 @@
--- Starting and resuming a search whose checkpoint is bytes (01, "Bookmark and calls"), under a list of substitutes (02, U1).
+-- Starting and resuming a search whose checkpoint is bytes (01, "Bookmark and calls"), under a list of substitutes (02, U1), the first one or the connected one
+-- (02, U7).
+use mathlib.Core.Bool.{Bool, not}
 use mathlib.Core.List.{List}
 use Prim.Native.Nat.{ℕ}
+use lib.Dec.{eqb}
 use Rattle.answers.specs.Answer.{Answer}
 use Rattle.problem.specs.Problem.{Problem, substituting}
 use Rattle.problem_reader.specs.ProblemReading.{ReadOutcome, onOutcome, readProblem}
@@ -10,22 +13,26 @@ use Rattle.replies.specs.Reply.{replyOf}
 use Rattle.c_api.specs.Wrote.{Wrote, wrote, wroteBy}
 use Rattle.replies.specs.Resumed.{Resumed, notResumed, resumeFrom}
 
+-- a number that asks for the connected search: any but 0
+abbrev pub asked : ℕ → Bool
+asked connected = not (eqb connected 0)
+
 -- "A fresh one needs a floor only"
-abbrev pub startOn : ReadOutcome → List ℕ → ℕ → List ℕ → Wrote
-startOn outcome substitutes minimum buffer =
+abbrev pub startOn : ReadOutcome → List ℕ → Bool → ℕ → List ℕ → Wrote
+startOn outcome substitutes connected minimum buffer =
     onOutcome
-    (λ (P : Problem). wroteBy (saving (substituting substitutes P) (freshCheckpoint minimum) buffer))
+    (λ (P : Problem). wroteBy (saving connected (substituting substitutes P) (freshCheckpoint minimum) buffer))
     (λ (refusal : Answer). wrote (replyOf refusal) buffer)
     outcome
 
 -- the graphs' refusals, the list's, then 13 where the bytes do not fit
-unfoldable pub starting : List ℕ → List ℕ → List ℕ → ℕ → List ℕ → Wrote
-starting old new substitutes minimum buffer = startOn (readProblem old new) substitutes minimum buffer
+unfoldable pub starting : List ℕ → List ℕ → List ℕ → Bool → ℕ → List ℕ → Wrote
+starting old new substitutes connected minimum buffer = startOn (readProblem old new) substitutes connected minimum buffer
 
-abbrev pub resumeOn : ReadOutcome → List ℕ → List ℕ → ℕ → List ℕ → List ℕ → Resumed
-resumeOn outcome substitutes bytes budget workspace next =
-    onOutcome (λ (P : Problem). resumeFrom (substituting substitutes P) bytes budget workspace next) (notResumed workspace next) outcome
+abbrev pub resumeOn : ReadOutcome → List ℕ → Bool → List ℕ → ℕ → List ℕ → List ℕ → Resumed
+resumeOn outcome substitutes connected bytes budget workspace next =
+    onOutcome (λ (P : Problem). resumeFrom connected (substituting substitutes P) bytes budget workspace next) (notResumed workspace next) outcome
 
 -- the graphs' refusals, the list's, those of the checkpoint bytes, those of the search call, and last 13
-unfoldable pub resuming : List ℕ → List ℕ → List ℕ → List ℕ → ℕ → List ℕ → List ℕ → Resumed
-resuming old new substitutes bytes budget workspace next = resumeOn (readProblem old new) substitutes bytes budget workspace next
+unfoldable pub resuming : List ℕ → List ℕ → List ℕ → Bool → List ℕ → ℕ → List ℕ → List ℕ → Resumed
+resuming old new substitutes connected bytes budget workspace next = resumeOn (readProblem old new) substitutes connected bytes budget workspace next

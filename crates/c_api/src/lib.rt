@@ -14,7 +14,7 @@ ghost use Rattle.replies.specs.Resumed.{resumed};
 ghost use Rattle.replies.specs.ReadOut.{readOut};
 ghost use Rattle.replies.specs.CliqueReply.{cliqueReply};
 ghost use Rattle.c_api.specs.Checks.{checkingGraph, checkingMapping};
-ghost use Rattle.c_api.specs.Calls.{starting, resuming};
+ghost use Rattle.c_api.specs.Calls.{asked, starting, resuming};
 ghost use Rattle.c_api.specs.ReadOut.{readingOut};
 ghost use Rattle.c_api.specs.Branching.{branching};
 ghost use Rattle.c_api.specs.Moves.{movingTo};
@@ -98,18 +98,19 @@ pub extern "C" fn golfcedar_check_mapping(
     }
 }
 
-// A search that has not begun, as checkpoint bytes.
+// A search that has not begun, as checkpoint bytes: the first one where `connected` is 0, else the connected one, here and below.
 #[no_mangle]
 pub extern "C" fn golfcedar_start(
     old_graph: &[u8],
     new_graph: &[u8],
     substitutes: &[u8],
+    connected: u32,
     minimum: u8,
     checkpoint: &mut [u8],
     value: &mut u64,
 ) -> u32
     ensures { λ r. ⌜ wrote (reply r (now (value .exit))) (now (checkpoint .exit))
-        ≡ starting (now («old_graph» .entry)) (now («new_graph» .entry)) (now (substitutes .entry)) minimum (now (checkpoint .entry)) ⌝ }
+        ≡ starting (now («old_graph» .entry)) (now («new_graph» .entry)) (now (substitutes .entry)) (asked connected) minimum (now (checkpoint .entry)) ⌝ }
 {
     let mut old_labels = [0 as Label; MAX_ORDER];
     let mut old_edges = [0u8; EDGE_BYTES];
@@ -135,6 +136,7 @@ pub extern "C" fn golfcedar_start(
                 [&old_labels, &new_labels],
                 [&old_edges, &new_edges],
                 substitutes,
+                connected != 0,
                 fresh,
                 checkpoint,
             ));
@@ -150,6 +152,7 @@ pub extern "C" fn golfcedar_resume(
     old_graph: &[u8],
     new_graph: &[u8],
     substitutes: &[u8],
+    connected: u32,
     checkpoint: &[u8],
     budget: u64,
     workspace: &mut [u64],
@@ -158,7 +161,7 @@ pub extern "C" fn golfcedar_resume(
     ceiling: &mut u64,
 ) -> u32
     ensures { λ r. ⌜ resumed (reply r (now (value .exit))) (now (ceiling .exit)) (now (workspace .exit)) (now (next .exit))
-        ≡ resuming (now («old_graph» .entry)) (now («new_graph» .entry)) (now (substitutes .entry)) (now (checkpoint .entry)) budget
+        ≡ resuming (now («old_graph» .entry)) (now («new_graph» .entry)) (now (substitutes .entry)) (asked connected) (now (checkpoint .entry)) budget
         (now (workspace .entry)) (now (next .entry)) ⌝ }
 {
     let mut old_labels = [0 as Label; MAX_ORDER];
@@ -185,6 +188,7 @@ pub extern "C" fn golfcedar_resume(
                 [&old_labels, &new_labels],
                 [&old_edges, &new_edges],
                 substitutes,
+                connected != 0,
                 checkpoint,
                 budget,
                 workspace,
@@ -203,6 +207,7 @@ pub extern "C" fn golfcedar_read_out(
     old_graph: &[u8],
     new_graph: &[u8],
     substitutes: &[u8],
+    connected: u32,
     checkpoint: &[u8],
     mapping: &mut [u8],
     value: &mut u64,
@@ -211,7 +216,8 @@ pub extern "C" fn golfcedar_read_out(
     ceiling: &mut u64,
 ) -> u32
     ensures { λ r. ⌜ readOut (reply r (now (value .exit))) (now (steps .exit)) (now (size .exit)) (now (ceiling .exit)) (now (mapping .exit))
-        ≡ readingOut (now («old_graph» .entry)) (now («new_graph» .entry)) (now (substitutes .entry)) (now (checkpoint .entry)) (now (mapping .entry)) ⌝ }
+        ≡ readingOut (now («old_graph» .entry)) (now («new_graph» .entry)) (now (substitutes .entry)) (asked connected) (now (checkpoint .entry))
+        (now (mapping .entry)) ⌝ }
 {
     *steps = 0;
     *size = 0;
@@ -239,6 +245,7 @@ pub extern "C" fn golfcedar_read_out(
                 [&old_labels, &new_labels],
                 [&old_edges, &new_edges],
                 substitutes,
+                connected != 0,
                 checkpoint,
                 mapping,
             );

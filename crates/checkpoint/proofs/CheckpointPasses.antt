@@ -13,21 +13,21 @@ use Rattle.checkpoint.specs.Checkpoints.{InShape, inShape}
 use Rattle.checkpoint.specs.Checking.{checkpointAnswer}
 use Rattle.checkpoint.proofs.ShapeTest.{shape-test}
 
-pub shape-passes : (P : Problem) (c : Checkpoint) → SoundProblem P → InShape P c → checkpointAnswer P c ≡ passed
+pub shape-passes : (connected : Bool) (P : Problem) (c : Checkpoint) → SoundProblem P → InShape connected P c → checkpointAnswer connected P c ≡ passed
 unfolding checkpointAnswer
-shape-passes P c sound shape = rw (problem-passes P sound, shape-test P sound c .1 shape)
+shape-passes connected P c sound shape = rw (problem-passes P sound, shape-test P sound connected c .1 shape)
 
-pub passes-shape : (P : Problem) (c : Checkpoint) → checkpointAnswer P c ≡ passed → SoundProblem P × InShape P c
+pub passes-shape : (connected : Bool) (P : Problem) (c : Checkpoint) → checkpointAnswer connected P c ≡ passed → SoundProblem P × InShape connected P c
 unfolding checkpointAnswer
-passes-shape P c e =
+passes-shape connected P c e =
     let both = both-passed (problemAnswer P) _ e in
     let sound = passes-problem P (both .0) in
-    (sound, shape-test P sound c .0 (tested (inShape P c) (both .1)))
+    (sound, shape-test P sound connected c .0 (tested (inShape connected P c) (both .1)))
   where
     tested : (t : Bool) → cond t passed (refused 14) ≡ passed → t ≡ true
     tested true e = refl
     tested false e = absurd (true≢false (cc))
 
-pub checkpoint-plain : (P : Problem) (c : Checkpoint) → Plain (checkpointAnswer P c)
+pub checkpoint-plain : (connected : Bool) (P : Problem) (c : Checkpoint) → Plain (checkpointAnswer connected P c)
 unfolding checkpointAnswer
-checkpoint-plain P c = first-plain (problemAnswer P) _ (problem-plain P) (either Plain (inShape P c) tt (omega arith))
+checkpoint-plain connected P c = first-plain (problemAnswer P) _ (problem-plain P) (either Plain (inShape connected P c) tt (omega arith))

@@ -62,8 +62,8 @@ module _ (n : ℕ) (c : Checkpoint) (few : n ≤ 64) (path-long : length (c .pat
       incumbent-same false e = padded-back 0 (c .incumbent) incumbent-long (omega arith) (λ i h. none-rest e i)
 
 -- The state that a checkpoint in shape stands for has that checkpoint.
-pub checkpoint-of-state : (P : Problem) (c : Checkpoint) → P .old .order ≤ 64 → length (c .path) ≡ 64 → length (c .incumbent) ≡ 64
-    → InShape P c → checkpointOf (c .minimum) (stateOf (P .old .order) c) ≡ c
-checkpoint-of-state P c few path-long incumbent-long shape =
+pub checkpoint-of-state : (connected : Bool) (P : Problem) (c : Checkpoint) → P .old .order ≤ 64 → length (c .path) ≡ 64 → length (c .incumbent) ≡ 64
+    → InShape connected P c → checkpointOf (c .minimum) (stateOf (P .old .order) c) ≡ c
+checkpoint-of-state connected P c few path-long incumbent-long shape =
     checkpoint-tidy (P .old .order) c few path-long incumbent-long (omega (arith, shape .depth-max)) (shape .path-rest) (shape .incumbent-rest)
     (shape .none-rest)

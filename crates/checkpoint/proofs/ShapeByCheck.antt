@@ -1,7 +1,7 @@
--- The test of a checkpoint's shape by the check of two mappings: of the filled path, and of what is held.
+-- The test of a checkpoint's shape by the check of two mappings, of the filled path and of what is held, and by whether the search may hold that.
 use mathlib.Core.Path.{_≡_, sym, ap, _∙_}
 use mathlib.Core.Logic.{Iff·trans}
-use mathlib.Core.Bool.{Bool, cond, not, _||_}
+use mathlib.Core.Bool.{Bool, cond, not, _&&_, _||_}
 use mathlib.Core.List.{List}
 use Prim.Native.Nat.{ℕ, _≤_, _<_, zero-le}
 use native.Mathlib.Decide.{decLt}
@@ -19,10 +19,11 @@ use Rattle.mapping.specs.Answers.{Outcome, flawed, checked}
 use Rattle.mapping.specs.Check.{listOutcome, bothOutcomes}
 use Rattle.mapping.proofs.BothOutcomes.{both-flawed, both-checked}
 use Rattle.search_tree.specs.Rules.{rulesOf}
+use Rattle.search_tree.specs.Search.{admitsOf}
 use Rattle.search_tree.specs.Trees.{Reached}
 use Rattle.search_tree.proofs.ReachedCommon.{reached-common}
 use Rattle.checkpoint.specs.declared.Checkpoint.{Checkpoint}
-use Rattle.checkpoint.specs.Checkpoints.{reaches, pathFits, incumbentFits, shapeTests, inShape}
+use Rattle.checkpoint.specs.Checkpoints.{reaches, pathFits, incumbentFits, heldAdmitted, shapeTests, inShape}
 use Rattle.checkpoint.specs.Checking.{checkpointAnswer}
 use Rattle.checkpoint.proofs.FilledPath.{filledTo, take-filled}
 use Rattle.checkpoint.proofs.ShapeTest.{tells-reaches}
@@ -56,10 +57,12 @@ module _ (P : Problem) (c : Checkpoint) (long : length (c .path) ≡ 64) (sound 
         (λ r. (reached-common P sound _ .0 r .1, zero-le), λ e. reached-common P sound _ .1 (omega (arith, decided), e .0)))
 
   -- in a sound problem a checkpoint is in shape exactly where the tests pass with what the check says of the two mappings
-  shape-by-check : inShape P c
+  shape-by-check : (connected : Bool)
+      → inShape connected P c
       ≡ shapeTests (P .old .order) (reaches 0 (listOutcome P (take (P .old .order) (filledTo (c .path) (c .depth))))) (incumbentFits P c) c
+      && heldAdmitted connected P c
   unfolding inShape
-  shape-by-check = go (decLt (P .old .order) (c .depth))
+  shape-by-check connected = ap (λ (t : Bool). t && heldAdmitted connected P c) (go (decLt (P .old .order) (c .depth)))
     where
       go : Dec (P .old .order < c .depth)
           → shapeTests (P .old .order) (allBelow (c .depth) (pathFits P c)) (incumbentFits P c) c
@@ -68,19 +71,22 @@ module _ (P : Problem) (c : Checkpoint) (long : length (c .path) ≡ 64) (sound 
       go (no deep) = rw (path-checked (omega arith))
 
 -- Where the check of two mappings refuses the graphs, so does the check of a checkpoint.
-pub flawed-answer : (P : Problem) (c : Checkpoint) (l m : List ℕ) (n : ℕ) → flawed (refused n) ≡ bothOutcomes P l m → refused n ≡ checkpointAnswer P c
+pub flawed-answer : (connected : Bool) (P : Problem) (c : Checkpoint) (l m : List ℕ) (n : ℕ) → flawed (refused n) ≡ bothOutcomes P l m
+    → refused n ≡ checkpointAnswer connected P c
 unfolding checkpointAnswer
-flawed-answer P c l m n e = rw (both-flawed P l m (refused n) (sym e))
+flawed-answer connected P c l m n e = rw (both-flawed P l m (refused n) (sym e))
 
 -- Where it checks the rows of the filled path and of the incumbent, what it says of them decides with the other tests.
-pub checked-answer : (P : Problem) (c : Checkpoint) (rows : ℕ) (entries : List ℕ) (a b : Outcome) (shaped : Bool) → length (c .path) ≡ 64
+pub checked-answer : (connected : Bool) (P : Problem) (c : Checkpoint) (rows : ℕ) (entries : List ℕ) (a b : Outcome) (shaped admitted : Bool)
+    → length (c .path) ≡ 64
     → (P .old .order ≤ 64 → rows ≡ P .old .order) → entries ≡ filledTo (c .path) (c .depth)
     → checked a b ≡ bothOutcomes P (take rows entries) (take rows (c .incumbent))
     → shaped ≡ shapeTests (P .old .order) (reaches 0 a) (not (c .holds) || reaches (c .minimum) b) c
-    → checkpointAnswer P c ≡ cond shaped passed (refused 14)
+    → admitted ≡ (not (c .holds) || admitsOf connected P (take rows (c .incumbent)))
+    → checkpointAnswer connected P c ≡ cond (shaped && admitted) passed (refused 14)
 unfolding checkpointAnswer
-checked-answer P c rows entries a b shaped long all filled e tests =
-    rw (found .0, shape-by-check P c long sound, path, held, tests)
+checked-answer connected P c rows entries a b shaped admitted long all filled e tests asked =
+    rw (found .0, shape-by-check P c long sound connected, path, held, tests, asked, all (sound .old-sound .order-max))
   where
     found : (problemAnswer P ≡ passed) × (listOutcome P (take rows entries) ≡ a) × (listOutcome P (take rows (c .incumbent)) ≡ b)
     found = both-checked P (take rows entries) (take rows (c .incumbent)) a b (sym e)

@@ -7,7 +7,7 @@ use Prim.Native.Nat.{ℕ, _≤_, _<_}
 use native.Mathlib.Decide.{decLt}
 use native.Mathlib.Omega.{arith}
 use lib.Dec.{eqb}
-use lib.ListN.{getD, take}
+use lib.ListN.{getD, take, length-take}
 use borrow.Author.Tests.{leb-true, eqb-true, eqb-false, le-leb}
 use Rattle.bounded.proofs.Tells.{Tells, tells-le, tells-lt, tells-eq, tells-itself, tells-not, tells-both, tells-one, tells-same, tells-all}
 use Rattle.problem.specs.Problem.{Problem, SoundProblem}
@@ -18,6 +18,8 @@ use Rattle.problem.proofs.ProblemPasses.{problem-passes}
 use Rattle.mapping.proofs.CheckPasses.{common-passes, passes-common}
 use Rattle.search_tree.specs.Rules.{rulesOf}
 use Rattle.search_tree.specs.Node.{candidate}
+use Rattle.search_tree.proofs.WalkTheorems.{admits-tells}
+use Rattle.connected.specs.Connected.{Connected}
 use Rattle.checkpoint.specs.declared.Checkpoint.{Checkpoint}
 use Rattle.checkpoint.specs.Checkpoints.{InShape, reaches, pathFits, restFits, inShape}
 
@@ -28,50 +30,58 @@ reached-number k (refusedRow n r) e = absurd (false≢true e)
 reached-number k (refusedRows n r s) e = absurd (false≢true e)
 
 -- what the tests say, in their order
-abbrev Clauses : Problem → Checkpoint → Type 0
-Clauses P c =
-    ((((c .depth ≤ P .old .order)
+abbrev Clauses : Bool → Problem → Checkpoint → Type 0
+Clauses connected P c =
+    (((((c .depth ≤ P .old .order)
     × ((k : ℕ) → k < c .depth → (getD (c .path) k 0 ≡ unmapped) ⊎ (candidate (rulesOf P) (take k (c .path)) k (getD (c .path) k 0) ≡ true)))
     × ((c .holds ≡ false) ⊎ (Common P (take (P .old .order) (c .incumbent)) × (c .minimum ≤ size (take (P .old .order) (c .incumbent))))))
     × ((((c .finished ≡ false) ⊎ (c .depth ≡ 0))
     × ((c .steps ≡ 0) ↔ ((c .finished ≡ false) × (c .depth ≡ 0))))
     × ((eqb (c .steps) 0 ≡ false) ⊎ (c .holds ≡ false))))
     × ((i : ℕ) → i < 64
-    → ((i < c .depth) ⊎ (getD (c .path) i 0 ≡ 0)) × (((c .holds ≡ true) × (i < P .old .order)) ⊎ (getD (c .incumbent) i 0 ≡ 0)))
+    → ((i < c .depth) ⊎ (getD (c .path) i 0 ≡ 0)) × (((c .holds ≡ true) × (i < P .old .order)) ⊎ (getD (c .incumbent) i 0 ≡ 0))))
+    × ((c .holds ≡ false) ⊎ (connected ≡ true → Connected (P .old) (take (P .old .order) (c .incumbent))))
 
-clauses-shape : (P : Problem) (c : Checkpoint) → Clauses P c → InShape P c
-clauses-shape P c x = record {
-  depth-max = x .0 .0 .0 .0;
-  entry = x .0 .0 .0 .1;
-  incumbent-common = λ e. held e .0;
+clauses-shape : (connected : Bool) (P : Problem) (c : Checkpoint) → Clauses connected P c → InShape connected P c
+clauses-shape connected P c x = record {
+  depth-max = x .0 .0 .0 .0 .0;
+  entry = x .0 .0 .0 .0 .1;
+  incumbent-good = λ e. record { common = held e .0; is-connected = ⊎-elim (λ f. absurd (true≢false (sym e ∙ f))) (λ h. h) (x .1) };
   incumbent-reaches = λ e. held e .1;
-  finished-root = λ e. ⊎-elim (λ f. absurd (true≢false (sym e ∙ f))) (λ root. root) (x .0 .1 .0 .0);
-  unmoved = λ e. let start = x .0 .1 .0 .1 .0 e in (start .0, start .1, ⊎-elim (λ ne. absurd (eqb-false (c .steps) 0 ne e)) (λ f. f) (x .0 .1 .1));
-  moved = λ f root. x .0 .1 .0 .1 .1 (f, root);
-  path-rest = λ i h l. ⊎-elim (λ early. absurd (omega arith)) (λ z. z) (x .1 i l .0);
-  incumbent-rest = λ i h l. ⊎-elim (λ early. absurd (omega arith)) (λ z. z) (x .1 i l .1);
-  none-rest = λ f i l. ⊎-elim (λ early. absurd (true≢false (sym (early .0) ∙ f))) (λ z. z) (x .1 i l .1);
+  finished-root = λ e. ⊎-elim (λ f. absurd (true≢false (sym e ∙ f))) (λ root. root) (x .0 .0 .1 .0 .0);
+  unmoved = λ e. let start = x .0 .0 .1 .0 .1 .0 e in (start .0, start .1, ⊎-elim (λ ne. absurd (eqb-false (c .steps) 0 ne e)) (λ f. f) (x .0 .0 .1 .1));
+  moved = λ f root. x .0 .0 .1 .0 .1 .1 (f, root);
+  path-rest = λ i h l. ⊎-elim (λ early. absurd (omega arith)) (λ z. z) (x .0 .1 i l .0);
+  incumbent-rest = λ i h l. ⊎-elim (λ early. absurd (omega arith)) (λ z. z) (x .0 .1 i l .1);
+  none-rest = λ f i l. ⊎-elim (λ early. absurd (true≢false (sym (early .0) ∙ f))) (λ z. z) (x .0 .1 i l .1);
 }
   where
     held : c .holds ≡ true → Common P (take (P .old .order) (c .incumbent)) × (c .minimum ≤ size (take (P .old .order) (c .incumbent)))
-    held e = ⊎-elim (λ f. absurd (true≢false (sym e ∙ f))) (λ h. h) (x .0 .0 .1)
+    held e = ⊎-elim (λ f. absurd (true≢false (sym e ∙ f))) (λ h. h) (x .0 .0 .0 .1)
 
-shape-clauses : (P : Problem) (c : Checkpoint) → InShape P c → Clauses P c
-shape-clauses P c s = (
+shape-clauses : (connected : Bool) (P : Problem) (c : Checkpoint) → InShape connected P c → Clauses connected P c
+shape-clauses connected P c s = (
   (
-    ((s .depth-max, s .entry), held (c .holds) refl),
     (
-      (finished (c .finished) refl, (λ e. let start = s .unmoved e in (start .0, start .1), λ start. s .moved (start .0) (start .1))),
-      steps (eqb (c .steps) 0) refl,
+      ((s .depth-max, s .entry), held (c .holds) refl),
+      (
+        (finished (c .finished) refl, (λ e. let start = s .unmoved e in (start .0, start .1), λ start. s .moved (start .0) (start .1))),
+        steps (eqb (c .steps) 0) refl,
+      ),
     ),
+    λ i l. (path i l (decLt i (c .depth)), incumbent i l (c .holds) refl (decLt i (P .old .order))),
   ),
-  λ i l. (path i l (decLt i (c .depth)), incumbent i l (c .holds) refl (decLt i (P .old .order))),
+  hangs (c .holds) refl,
 )
   where
     held : (b : Bool) → c .holds ≡ b
         → (c .holds ≡ false) ⊎ (Common P (take (P .old .order) (c .incumbent)) × (c .minimum ≤ size (take (P .old .order) (c .incumbent))))
-    held true e = inr (s .incumbent-common e, s .incumbent-reaches e)
+    held true e = inr (s .incumbent-good e .common, s .incumbent-reaches e)
     held false e = inl e
+
+    hangs : (b : Bool) → c .holds ≡ b → (c .holds ≡ false) ⊎ (connected ≡ true → Connected (P .old) (take (P .old .order) (c .incumbent)))
+    hangs true e = inr (s .incumbent-good e .is-connected)
+    hangs false e = inl e
 
     finished : (b : Bool) → c .finished ≡ b → (c .finished ≡ false) ⊎ (c .depth ≡ 0)
     finished true e = inr (s .finished-root e)
@@ -107,11 +117,11 @@ module _ (P : Problem) (sound : SoundProblem P) where
     λ good. ap (reaches k) (sym (list-check l) ∙ common-passes P l sound (good .0)) ∙ le-leb k (size l) (good .1),
   )
 
-  module _ (c : Checkpoint) where
-    tells-clauses : Tells (inShape P c) (Clauses P c)
+  module _ (connected : Bool) (c : Checkpoint) where
+    tells-clauses : Tells (inShape connected P c) (Clauses connected P c)
     unfolding inShape
     tells-clauses =
-        tells-both _ _ (tells-both _ _ (tells-both _ _ (tells-both _ _
+        tells-both _ _ (tells-both _ _ (tells-both _ _ (tells-both _ _ (tells-both _ _
         (tells-le (c .depth) (P .old .order))
         (tells-all (c .depth) (pathFits P c) (λ k. tells-one _ _ (tells-eq (getD (c .path) k 0) unmapped) (tells-itself _))))
         (tells-one _ _ (tells-not (c .holds)) (tells-reaches (c .minimum) _)))
@@ -121,8 +131,10 @@ module _ (P : Problem) (sound : SoundProblem P) where
         (tells-one _ _ (tells-not (eqb (c .steps) 0)) (tells-not (c .holds)))))
         (tells-all 64 (restFits (P .old .order) c) (λ i. tells-both _ _
         (tells-one _ _ (tells-lt i (c .depth)) (tells-eq (getD (c .path) i 0) 0))
-        (tells-one _ _ (tells-both _ _ (tells-itself (c .holds)) (tells-lt i (P .old .order))) (tells-eq (getD (c .incumbent) i 0) 0))))
+        (tells-one _ _ (tells-both _ _ (tells-itself (c .holds)) (tells-lt i (P .old .order))) (tells-eq (getD (c .incumbent) i 0) 0)))))
+        (tells-one _ _ (tells-not (c .holds)) (admits-tells connected P sound _
+        (omega (arith, length-take (P .old .order) (c .incumbent), sound .old-sound .order-max))))
 
     -- The test passes exactly on a checkpoint in shape.
-    pub shape-test : (inShape P c ≡ true) ↔ InShape P c
-    shape-test = Iff·trans tells-clauses (clauses-shape P c, shape-clauses P c)
+    pub shape-test : (inShape connected P c ≡ true) ↔ InShape connected P c
+    shape-test = Iff·trans tells-clauses (clauses-shape connected P c, shape-clauses connected P c)

@@ -9,14 +9,14 @@ use native.Mathlib.Omega.{arith}
 use lib.ListN.{length, getD, take, replicate, length-take, List·getD-append}
 use lib.Seq.{take-at, take-append-le, getD-take, take-take}
 use Rattle.problem.specs.Problem.{Problem, SoundProblem}
-use Rattle.mapping.specs.Common.{Common, unmapped, size}
+use Rattle.mapping.specs.Common.{unmapped, size}
 use Rattle.search_tree.specs.Rules.{rulesOf}
-use Rattle.search_tree.specs.Search.{searchOf}
+use Rattle.search_tree.specs.Search.{searchOf, Good}
 use Rattle.search_tree.specs.Node.{candidate}
 use Rattle.search_tree.specs.Walk.{State, after}
 use Rattle.search_tree.specs.Shape.{IncumbentShape, Shape}
 use Rattle.search_tree.proofs.Shape.{after-shape}
-use Rattle.search_tree.proofs.WalkTheorems.{incumbent-shape-common}
+use Rattle.search_tree.proofs.WalkTheorems.{incumbent-shape-good}
 use Rattle.checkpoint.specs.declared.Checkpoint.{Checkpoint}
 use Rattle.checkpoint.specs.Checkpoints.{padded, hasIncumbent, incumbentBytes, checkpointOf, stateOf, InShape, inShape}
 use Rattle.checkpoint.proofs.Padding.{padded-rest}
@@ -27,14 +27,14 @@ length-zero : (l : List ℕ) → length l ≡ 0 → l ≡ []
 length-zero [] e = refl
 length-zero (a ∷ l) e = absurd (omega arith)
 
-module _ (P : Problem) (sound : SoundProblem P) (minimum : ℕ) where
+module _ (connected : Bool) (P : Problem) (sound : SoundProblem P) (minimum : ℕ) where
   -- The checkpoint of a state in shape is in shape.
-  pub checkpoint-in-shape : (s : State) → Shape (searchOf P) minimum s → InShape P (checkpointOf minimum s)
+  pub checkpoint-in-shape : (s : State) → Shape (searchOf connected P) minimum s → InShape connected P (checkpointOf minimum s)
   unfolding checkpointOf
   checkpoint-in-shape s shape = record {
     depth-max = shape .reached .depth;
     entry = entry;
-    incumbent-common = λ e. held (s .incumbent) refl e .0;
+    incumbent-good = λ e. held (s .incumbent) refl e .0;
     incumbent-reaches = λ e. held (s .incumbent) refl e .1;
     finished-root = λ e. ap length (shape .finished-root e);
     unmoved = λ e. let start = shape .fresh-root .0 e in (start .0, ap length (start .1), ap hasIncumbent (shape .fresh-none e));
@@ -52,11 +52,11 @@ module _ (P : Problem) (sound : SoundProblem P) (minimum : ℕ) where
           rw (List·getD-append (s .path) tail 0 k h, take-append-le k (s .path) tail (omega arith)) (shape .reached .entry k h)
 
       held : (o : Option (List ℕ)) → s .incumbent ≡ o → hasIncumbent o ≡ true
-          → Common P (take (P .old .order) (incumbentBytes o)) × (minimum ≤ size (take (P .old .order) (incumbentBytes o)))
+          → Good connected P (take (P .old .order) (incumbentBytes o)) × (minimum ≤ size (take (P .old .order) (incumbentBytes o)))
       held none e f = absurd (false≢true f)
       held (some h) e f =
           let good = shape .incumbent-shape h e in
-          rw (take-at h (replicate (64 - length h) 0) (P .old .order) (good .full)) (incumbent-shape-common P sound minimum h .0 good)
+          rw (take-at h (replicate (64 - length h) 0) (P .old .order) (good .full)) (incumbent-shape-good connected P sound minimum h .0 good)
 
       incumbent-rest : (o : Option (List ℕ)) → s .incumbent ≡ o → (i : ℕ) → P .old .order ≤ i → i < 64 → getD (incumbentBytes o) i 0 ≡ 0
       incumbent-rest none e i h = padded-rest [] i (omega arith)
@@ -68,17 +68,17 @@ module _ (P : Problem) (sound : SoundProblem P) (minimum : ℕ) where
 
   module _ (k : ℕ) where
     -- The walk's checkpoint is in shape after any number of visits: no call on it gets 14.
-    pub walk-in-shape : inShape P (checkpointOf minimum (after (searchOf P) minimum k)) ≡ true
-    walk-in-shape = shape-test P sound _ .1 (checkpoint-in-shape _ (after-shape (searchOf P) minimum k))
+    pub walk-in-shape : inShape connected P (checkpointOf minimum (after (searchOf connected P) minimum k)) ≡ true
+    walk-in-shape = shape-test P sound connected _ .1 (checkpoint-in-shape _ (after-shape (searchOf connected P) minimum k))
 
     -- The walk's checkpoint stands for the walk's state.
-    pub walk-state : stateOf (P .old .order) (checkpointOf minimum (after (searchOf P) minimum k)) ≡ after (searchOf P) minimum k
+    pub walk-state : stateOf (P .old .order) (checkpointOf minimum (after (searchOf connected P) minimum k)) ≡ after (searchOf connected P) minimum k
     walk-state =
-        state-of-checkpoint (P .old .order) minimum _ (λ h e. after-shape (searchOf P) minimum k .incumbent-shape h e .full)
+        state-of-checkpoint (P .old .order) minimum _ (λ h e. after-shape (searchOf connected P) minimum k .incumbent-shape h e .full)
 
-module _ (P : Problem) (sound : SoundProblem P) (c : Checkpoint) (path-long : length (c .path) ≡ 64) (shape : InShape P c) where
+module _ (connected : Bool) (P : Problem) (sound : SoundProblem P) (c : Checkpoint) (path-long : length (c .path) ≡ 64) (shape : InShape connected P c) where
   -- The state that a checkpoint in shape stands for is in shape.
-  pub state-in-shape : Shape (searchOf P) (c .minimum) (stateOf (P .old .order) c)
+  pub state-in-shape : Shape (searchOf connected P) (c .minimum) (stateOf (P .old .order) c)
   unfolding stateOf
   state-in-shape = record {
     reached = record { depth = omega (arith, depth, shape .depth-max); entry = entry };
@@ -102,7 +102,7 @@ module _ (P : Problem) (sound : SoundProblem P) (c : Checkpoint) (path-long : le
           rw (getD-take (c .depth) (c .path) k 0 early, take-take k (c .depth) (c .path) (omega arith)) (shape .entry k early)
 
       held : (b : Bool) → c .holds ≡ b → (h : List ℕ) → cond b (some (take (P .old .order) (c .incumbent))) none ≡ some h
-          → IncumbentShape (searchOf P) (c .minimum) h
+          → IncumbentShape (searchOf connected P) (c .minimum) h
       held true e h q =
-          rw (← Option·some-injective _ h q) (incumbent-shape-common P sound (c .minimum) _ .1 (shape .incumbent-common e, shape .incumbent-reaches e))
+          rw (← Option·some-injective _ h q) (incumbent-shape-good connected P sound (c .minimum) _ .1 (shape .incumbent-good e, shape .incumbent-reaches e))
       held false e h q = absurd (Option·none-ne-some h q)

@@ -1,4 +1,4 @@
--- The checkpoint of a state of the walk, the state of a checkpoint, and when a checkpoint is in shape: 01, "Bookmark and calls", first paragraph.
+-- The checkpoint of a state of the walk, the state of a checkpoint, and when a checkpoint is in shape: 01, "Bookmark and calls", first paragraph, and 02, U7.
 use mathlib.Core.Path.{_≡_}
 use mathlib.Core.Bool.{Bool, true, false, cond, not, _&&_, _||_, Bool·beq}
 use mathlib.Core.Logic.{_⊎_}
@@ -9,10 +9,11 @@ use lib.Dec.{leb, ltb, eqb}
 use lib.ListN.{length, getD, take, replicate}
 use Rattle.bounded.specs.Below.{allBelow}
 use Rattle.problem.specs.Problem.{Problem}
-use Rattle.mapping.specs.Common.{Common, unmapped, size}
+use Rattle.mapping.specs.Common.{unmapped, size}
 use Rattle.mapping.specs.Answers.{Outcome, accepted, refused, refusedRow, refusedRows}
 use Rattle.mapping.specs.Check.{listOutcome}
 use Rattle.search_tree.specs.Rules.{rulesOf}
+use Rattle.search_tree.specs.Search.{admitsOf, Good}
 use Rattle.search_tree.specs.Node.{candidate}
 use Rattle.search_tree.specs.Walk.{State, fresh}
 use Rattle.checkpoint.specs.declared.Checkpoint.{Checkpoint}
@@ -56,15 +57,15 @@ stateOf n c =
       incumbent = cond (c .holds) (some (take n (c .incumbent))) none;
     }
 
--- 01's clauses, in its order
-pub record InShape (P : Problem) (c : Checkpoint) : Type 0 where
+-- 01's clauses, in its order, for the first search or the connected one
+pub record InShape (connected : Bool) (P : Problem) (c : Checkpoint) : Type 0 where
   -- "depth is at most n"
   pub depth-max : c .depth ≤ P .old .order
   -- "each path byte is a candidate of its row or 255"
   pub entry : (k : ℕ) → k < c .depth
       → (getD (c .path) k 0 ≡ unmapped) ⊎ (candidate (rulesOf P) (take k (c .path)) k (getD (c .path) k 0) ≡ true)
-  -- "a held matching is good and reaches the floor"
-  pub incumbent-common : c .holds ≡ true → Common P (take (P .old .order) (c .incumbent))
+  -- "a held matching is good and reaches the floor"; 02, U7: "A matching held in its bookmark must be connected, else 14"
+  pub incumbent-good : c .holds ≡ true → Good connected P (take (P .old .order) (c .incumbent))
   pub incumbent-reaches : c .holds ≡ true → c .minimum ≤ size (take (P .old .order) (c .incumbent))
   -- "finished has depth 0"
   pub finished-root : c .finished ≡ true → c .depth ≡ 0
@@ -89,6 +90,10 @@ pathFits P c k = eqb (getD (c .path) k 0) unmapped || candidate (rulesOf P) (tak
 abbrev pub incumbentFits : Problem → Checkpoint → Bool
 incumbentFits P c = not (c .holds) || reaches (c .minimum) (listOutcome P (take (P .old .order) (c .incumbent)))
 
+-- what is held may be held by this search
+abbrev pub heldAdmitted : Bool → Problem → Checkpoint → Bool
+heldAdmitted connected P c = not (c .holds) || admitsOf connected P (take (P .old .order) (c .incumbent))
+
 -- `finished-root`, `unmoved` and `moved`
 abbrev pub stepsFit : Checkpoint → Bool
 stepsFit c =
@@ -105,5 +110,6 @@ abbrev pub shapeTests : ℕ → Bool → Bool → Checkpoint → Bool
 shapeTests n path incumbent c = leb (c .depth) n && path && incumbent && stepsFit c && allBelow 64 (restFits n c)
 
 -- the same as a test that computes, clause by clause
-unfoldable pub inShape : Problem → Checkpoint → Bool
-inShape P c = shapeTests (P .old .order) (allBelow (c .depth) (pathFits P c)) (incumbentFits P c) c
+unfoldable pub inShape : Bool → Problem → Checkpoint → Bool
+inShape connected P c =
+    shapeTests (P .old .order) (allBelow (c .depth) (pathFits P c)) (incumbentFits P c) c && heldAdmitted connected P c

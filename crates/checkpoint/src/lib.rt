@@ -1,4 +1,4 @@
-// The checkpoint of a search, and the test of its shape for two graphs and a list of substitutes.
+// The checkpoint of a search, and the test of its shape for two graphs, a list of substitutes and one of the two searches.
 
 mod shape;
 
@@ -49,15 +49,16 @@ pub enum ShapeAnswer {
     OutOfShape,
 }
 
-// Whether the checkpoint is in shape for the two graphs and the substitutes.
+// Whether the checkpoint is in shape for the two graphs, the substitutes and the search, the first or the connected one.
 pub fn check_checkpoint<'a>(
     orders: Orders,
     labels: Labels<'a>,
     edges: Edges<'a>,
     substitutes: &[u8],
+    connected: bool,
     checkpoint: Checkpoint,
 ) -> ShapeAnswer
-    ensures { λ r. ⌜ shapeAnswer r ≡ checkpointAnswer (lent orders (labels .entry) (edges .entry) (now (substitutes .entry))) checkpoint ⌝ }
+    ensures { λ r. ⌜ shapeAnswer r ≡ checkpointAnswer connected (lent orders (labels .entry) (edges .entry) (now (substitutes .entry))) checkpoint ⌝ }
 {
     let order = orders[0];
     let rows = shape::rows(order);
@@ -76,6 +77,9 @@ pub fn check_checkpoint<'a>(
         MappingsAnswer::Flawed(flaw) => ShapeAnswer::Flawed(flaw),
         MappingsAnswer::Checked(reached, held) => {
             if !shape::in_shape(order, checkpoint, reached, held) {
+                return ShapeAnswer::OutOfShape;
+            }
+            if !shape::held_admitted(connected, checkpoint, edges[0], rows) {
                 return ShapeAnswer::OutOfShape;
             }
             ShapeAnswer::InShape

@@ -1,4 +1,5 @@
-// The test of a checkpoint's shape, clause by clause; the path and the incumbent are tested by the check of a mapping.
+// The test of a checkpoint's shape, clause by clause; the path and the incumbent are tested by the check of a mapping, and the incumbent, in the connected
+// search, for hanging together.
 
 use super::Checkpoint;
 use graph::MAX_ORDER;
@@ -11,6 +12,7 @@ ghost use Prim.Native.Nat.{_-_, _≤_};
 ghost use lib.ListN.{length, take, replicate};
 ghost use Rattle.bounded.specs.Below.{allBelow};
 ghost use Rattle.mapping.specs.Answers.{mappingOutcome};
+ghost use Rattle.search_tree.specs.Search.{admitsBy};
 ghost use Rattle.checkpoint.specs.Checkpoints.{reaches as reachesTo, stepsFit, restFits, shapeTests};
 
 // The rows that can be lent of 64, whatever the order: an order above 64 is refused by the check that they are lent to.
@@ -49,6 +51,22 @@ pub fn reaches(asked: bool, minimum: u8, answer: MappingAnswer) -> bool
         MappingAnswer::Common(size) => minimum as usize <= size,
         _ => false,
     }
+}
+
+// Whether what is held, if anything, hangs together, where the search asks for it.
+pub fn held_admitted(connected: bool, checkpoint: Checkpoint, edges: &[u8], rows: usize) -> bool
+    requires { ⌜ (rows ≤ 64) × (length (checkpoint .incumbent) ≡ 64) ⌝ }
+    ensures { λ r. ⌜ r ≡ (not (checkpoint .holds) || admitsBy connected (now (edges .entry)) (take rows (checkpoint .incumbent))) ⌝ }
+{
+    let holds = checkpoint.holds;
+    if !holds {
+        return true;
+    }
+    if !connected {
+        return true;
+    }
+    let incumbent = checkpoint.incumbent;
+    connected::is_connected(edges, &incumbent[..rows])
 }
 
 // Steps are 0 exactly when it is unfinished at depth 0, and then nothing is held; finished has depth 0.

@@ -1,4 +1,5 @@
 -- The mission's third property for lists of calls with the checkpoint saved and loaded between any two of them.
+use mathlib.Core.Bool.{Bool}
 use mathlib.Core.Path.{_≡_, refl, ap, _∙_}
 use mathlib.Core.List.{List, [], _∷_}
 use Prim.Native.Nat.{ℕ}
@@ -14,34 +15,34 @@ use Rattle.checkpoint_loader.specs.Between.{Sized, SavedCall, callsOf, s
 use Rattle.checkpoint_loader.proofs.SaveLoad.{reloaded-same}
 use Rattle.checkpoint_loader.proofs.CalledSized.{fresh-sized, called-sized}
 
-module _ (P : Problem) where
+module _ (connected : Bool) (P : Problem) where
   -- So it is from any checkpoint that the code can have, for any problem.
-  pub between-from : (c : Checkpoint) → Sized c → (calls : List SavedCall) → SameAsCalls P c calls
+  pub between-from : (c : Checkpoint) → Sized c → (calls : List SavedCall) → SameAsCalls connected P c calls
   unfolding savedResults savedLeaves results leaves callsOf
   between-from c sized [] = (refl, refl)
   between-from c sized (x ∷ later) =
-      let first = called P c (x .call) in
-      let long = called-sized P c sized (x .call) in
-      let back = reloaded-same P (first .checkpoint) long (x .buffer) in
+      let first = called connected P c (x .call) in
+      let long = called-sized connected P c sized (x .call) in
+      let back = reloaded-same connected P (first .checkpoint) long (x .buffer) in
       let rest = between-from (first .checkpoint) long later in (
-        ap (λ (d : Checkpoint). first ∷ savedResults P d later) back ∙ ap (_∷_ first) (rest .0),
-        ap (λ (d : Checkpoint). savedLeaves P d later) back ∙ rest .1,
+        ap (λ (d : Checkpoint). first ∷ savedResults connected P d later) back ∙ ap (_∷_ first) (rest .0),
+        ap (λ (d : Checkpoint). savedLeaves connected P d later) back ∙ rest .1,
       )
 
   -- And from a fresh one.
-  pub between : (minimum : ℕ) (calls : List SavedCall) → SameAsCalls P (freshCheckpoint minimum) calls
+  pub between : (minimum : ℕ) (calls : List SavedCall) → SameAsCalls connected P (freshCheckpoint minimum) calls
   between minimum = between-from (freshCheckpoint minimum) (fresh-sized minimum)
 
 -- The third property holds of the calls, and with the checkpoint saved and loaded between them nothing is different.
-pub third-property-between : (P : Problem) → SoundProblem P → (minimum t : ℕ) → IsTotal (searchOf P) minimum t
-    → (calls : List SavedCall) → ThirdProperty P minimum t (callsOf calls) × SameAsCalls P (freshCheckpoint minimum) calls
-third-property-between P sound minimum t total calls =
-    (third-property P sound minimum t total (callsOf calls), between P minimum calls)
+pub third-property-between : (connected : Bool) (P : Problem) → SoundProblem P → (minimum t : ℕ) → IsTotal (searchOf connected P) minimum t
+    → (calls : List SavedCall) → ThirdProperty connected P minimum t (callsOf calls) × SameAsCalls connected P (freshCheckpoint minimum) calls
+third-property-between connected P sound minimum t total calls =
+    (third-property connected P sound minimum t total (callsOf calls), between connected P minimum calls)
 
 -- The walk has one total, and with it this holds of every list of calls.
-pub third-property-between-total : (P : Problem) → SoundProblem P → (minimum : ℕ)
-    → (t : ℕ) × IsTotal (searchOf P) minimum t × ((u : ℕ) → IsTotal (searchOf P) minimum u → u ≡ t)
-    × ((calls : List SavedCall) → ThirdProperty P minimum t (callsOf calls) × SameAsCalls P (freshCheckpoint minimum) calls)
-third-property-between-total P sound minimum =
-    let (t, total, unique, property) = third-property-total P sound minimum in
-    (t, total, unique, third-property-between P sound minimum t total)
+pub third-property-between-total : (connected : Bool) (P : Problem) → SoundProblem P → (minimum : ℕ)
+    → (t : ℕ) × IsTotal (searchOf connected P) minimum t × ((u : ℕ) → IsTotal (searchOf connected P) minimum u → u ≡ t)
+    × ((calls : List SavedCall) → ThirdProperty connected P minimum t (callsOf calls) × SameAsCalls connected P (freshCheckpoint minimum) calls)
+third-property-between-total connected P sound minimum =
+    let (t, total, unique, property) = third-property-total connected P sound minimum in
+    (t, total, unique, third-property-between connected P sound minimum t total)

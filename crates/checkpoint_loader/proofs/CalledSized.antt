@@ -60,24 +60,24 @@ module _ (minimum : ℕ) where
   pub fresh-sized : Sized (freshCheckpoint minimum)
   fresh-sized = checkpoint-sized _ (omega arith) (λ h e. absurd (Option·none-ne-some h e)) (omega arith)
 
-module _ (P : Problem) (c : Checkpoint) (sized : Sized c) (call : Call) where
+module _ (connected : Bool) (P : Problem) (c : Checkpoint) (sized : Sized c) (call : Call) where
   -- what a call does to its checkpoint: it keeps it, or makes the visits of its budget
   data KeptOrAdvanced (r : Called) : Type 0 where
     kept : r .checkpoint ≡ c → KeptOrAdvanced r
-    advanced : SoundProblem P → InShape P c → countFits c (call .budget) ≡ true → r ≡ advance P c (call .budget) (call .workspace) → KeptOrAdvanced r
+    advanced : SoundProblem P → InShape connected P c → countFits c (call .budget) ≡ true → r ≡ advance connected P c (call .budget) (call .workspace) → KeptOrAdvanced r
 
   -- a call goes one of the two ways
-  kept-or-advanced : KeptOrAdvanced (called P c call)
+  kept-or-advanced : KeptOrAdvanced (called connected P c call)
   unfolding searchCall
-  kept-or-advanced = go (checkpointAnswer P c) refl (leb wordsNeeded (length (call .workspace))) (countFits c (call .budget)) refl
+  kept-or-advanced = go (checkpointAnswer connected P c) refl (leb wordsNeeded (length (call .workspace))) (countFits c (call .budget)) refl
     where
-      go : (a : Answer) → checkpointAnswer P c ≡ a → (w u : Bool) → countFits c (call .budget) ≡ u
+      go : (a : Answer) → checkpointAnswer connected P c ≡ a → (w u : Bool) → countFits c (call .budget) ≡ u
           → KeptOrAdvanced (onPassed a
           (cond w
-          (cond u (advance P c (call .budget) (call .workspace)) (refuse c (call .workspace) 16))
+          (cond u (advance connected P c (call .budget) (call .workspace)) (refuse c (call .workspace) 16))
           (refuse c (call .workspace) 15))
           (refuse c (call .workspace)))
-      go passed p true true r = let fine = passes-shape P c p in advanced (fine .0) (fine .1) r refl
+      go passed p true true r = let fine = passes-shape connected P c p in advanced (fine .0) (fine .1) r refl
       go passed p true false r = kept refl
       go passed p false u r = kept refl
       go (accepted n) p w u r = kept refl
@@ -86,43 +86,43 @@ module _ (P : Problem) (c : Checkpoint) (sized : Sized c) (call : Call) where
 
   -- the steps of an accepted call
   steps-fit : (finished : Bool) → c .finished ≡ finished → (finished || ltb (c .steps + call .budget) (2 ^ 64)) ≡ true
-      → visits (searchOf P) (c .minimum) (call .budget) (stateOf (P .old .order) c) .steps < 2 ^ 64
+      → visits (searchOf connected P) (c .minimum) (call .budget) (stateOf (P .old .order) c) .steps < 2 ^ 64
   unfolding stateOf
   steps-fit true end fits =
-      rw (visits-finished (searchOf P) (c .minimum) (call .budget) (stateOf (P .old .order) c) end) (sized .steps-fit)
+      rw (visits-finished (searchOf connected P) (c .minimum) (call .budget) (stateOf (P .old .order) c) end) (sized .steps-fit)
   steps-fit false busy fits =
-      let made = visits-step-max (searchOf P) (c .minimum) (call .budget) (stateOf (P .old .order) c) in
+      let made = visits-step-max (searchOf connected P) (c .minimum) (call .budget) (stateOf (P .old .order) c) in
       omega (arith, ltb-true (c .steps + call .budget) (2 ^ 64) fits)
 
   -- the checkpoint that it leaves
-  advanced-sized : SoundProblem P → InShape P c → countFits c (call .budget) ≡ true
-      → Sized (advance P c (call .budget) (call .workspace) .checkpoint)
+  advanced-sized : SoundProblem P → InShape connected P c → countFits c (call .budget) ≡ true
+      → Sized (advance connected P c (call .budget) (call .workspace) .checkpoint)
   unfolding advance
   advanced-sized sound shape fits =
       checkpoint-sized (c .minimum) s (omega (arith, few, in-shape .reached .depth)) (λ h e. omega (arith, few, in-shape .incumbent-shape h e .full))
       (steps-fit (c .finished) refl fits)
     where
       s : State
-      s = visits (searchOf P) (c .minimum) (call .budget) (stateOf (P .old .order) c)
+      s = visits (searchOf connected P) (c .minimum) (call .budget) (stateOf (P .old .order) c)
 
       few : P .old .order ≤ 64
       few = sound .old-sound .order-max
 
-      in-shape : Shape (searchOf P) (c .minimum) s
-      in-shape = visits-shape _ _ (call .budget) _ (state-in-shape P sound c (sized .path-long) shape)
+      in-shape : Shape (searchOf connected P) (c .minimum) s
+      in-shape = visits-shape _ _ (call .budget) _ (state-in-shape connected P sound c (sized .path-long) shape)
 
   -- A call leaves such a checkpoint.
-  pub called-sized : Sized (called P c call .checkpoint)
-  called-sized = go (called P c call) kept-or-advanced
+  pub called-sized : Sized (called connected P c call .checkpoint)
+  called-sized = go (called connected P c call) kept-or-advanced
     where
       go : (r : Called) → KeptOrAdvanced r → Sized (r .checkpoint)
       go r (kept e) = rw e sized
       go r (advanced sound shape fits e) = rw e (advanced-sized sound shape fits)
 
   -- It is in shape again.
-  pub called-in-shape : InShape P c → InShape P (called P c call .checkpoint)
-  called-in-shape in-shape = go (called P c call) kept-or-advanced
+  pub called-in-shape : InShape connected P c → InShape connected P (called connected P c call .checkpoint)
+  called-in-shape in-shape = go (called connected P c call) kept-or-advanced
     where
-      go : (r : Called) → KeptOrAdvanced r → InShape P (r .checkpoint)
+      go : (r : Called) → KeptOrAdvanced r → InShape connected P (r .checkpoint)
       go r (kept e) = rw e in-shape
-      go r (advanced sound shape fits e) = rw e (advance-in-shape P sound c (sized .path-long) shape (call .budget) (call .workspace))
+      go r (advanced sound shape fits e) = rw e (advance-in-shape connected P sound c (sized .path-long) shape (call .budget) (call .workspace))

@@ -122,9 +122,9 @@ values-padded k l long few rest =
     ap padded (values-front k (λ i. getD l i 0) l (omega arith) (λ i h. refl)) ∙ padded-back k l long few rest
 
 -- A checkpoint is what its bytes say: where its steps are 64 bits, its arrays have 64 entries, and those not in use are 0.
-pub save-said : (P : Problem) (c : Checkpoint) → P .old .order ≤ 64 → Sized c → InShape P c → said (P .old .order) (checkpointBytes (P .old .order) c) ≡ c
+pub save-said : (connected : Bool) (P : Problem) (c : Checkpoint) → P .old .order ≤ 64 → Sized c → InShape connected P c → said (P .old .order) (checkpointBytes (P .old .order) c) ≡ c
 unfolding saved-formed
-save-said P c few sized shape =
+save-said connected P c few sized shape =
     said-formed (saved-formed n c (shape .depth-max))
     ∙ (λ i. record {
       minimum = c .minimum;

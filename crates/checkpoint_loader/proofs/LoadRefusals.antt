@@ -24,30 +24,30 @@ out-of-shape : (b : Bool) (c : Checkpoint) (m : ℕ) → cond b passed (refused 
 out-of-shape true c m e = absurd (true≢false (cc))
 out-of-shape false c m e = ap refuse (sym e)
 
-module _ (P : Problem) (bytes : List ℕ) where
+module _ (connected : Bool) (P : Problem) (bytes : List ℕ) where
   -- Graphs that are not sound are refused with their number.
-  pub load-flawed : (m : ℕ) → problemAnswer P ≡ refused m → refuse (refused m) ≡ loading P bytes
+  pub load-flawed : (m : ℕ) → problemAnswer P ≡ refused m → refuse (refused m) ≡ loading connected P bytes
   unfolding loading
   load-flawed m e = rw e
 
   module _ (sound : problemAnswer P ≡ passed) where
     -- Bytes that are not in the form are refused with the place.
-    pub load-malformed : (at : ℕ) → formFault (P .old .order) bytes ≡ some at → refuse (refusedAt 17 at) ≡ loading P bytes
+    pub load-malformed : (at : ℕ) → formFault (P .old .order) bytes ≡ some at → refuse (refusedAt 17 at) ≡ loading connected P bytes
     unfolding loading
     load-malformed at e = rw (sound, e)
 
     module _ (formed : formFault (P .old .order) bytes ≡ none) (c : Checkpoint) (told : c ≡ said (P .old .order) bytes) where
       -- past the first two tests the third decides
-      shape-decides : loading P bytes ≡ onShape P c
+      shape-decides : loading connected P bytes ≡ onShape connected P c
       unfolding loading
       shape-decides = rw (sound, formed, told)
 
       -- The checkpoint that the bytes say is loaded where its check passes.
-      pub load-passed : checkpointAnswer P c ≡ passed → record { answer = passed; checkpoint = c } ≡ loading P bytes
+      pub load-passed : checkpointAnswer connected P c ≡ passed → record { answer = passed; checkpoint = c } ≡ loading connected P bytes
       unfolding checkpointAnswer
-      load-passed e = in-shape (inShape P c) c (rw sound at e) ∙ sym shape-decides
+      load-passed e = in-shape (inShape connected P c) c (rw sound at e) ∙ sym shape-decides
 
       -- It is refused where its check refuses it.
-      pub load-refused : (m : ℕ) → checkpointAnswer P c ≡ refused m → refuse (refused m) ≡ loading P bytes
+      pub load-refused : (m : ℕ) → checkpointAnswer connected P c ≡ refused m → refuse (refused m) ≡ loading connected P bytes
       unfolding checkpointAnswer
-      load-refused m e = out-of-shape (inShape P c) c m (rw sound at e) ∙ sym shape-decides
+      load-refused m e = out-of-shape (inShape connected P c) c m (rw sound at e) ∙ sym shape-decides

@@ -1,4 +1,5 @@
 -- What loading accepts is what the code's types say of every checkpoint: two arrays of 64 bytes, and steps of 64 bits.
+use mathlib.Core.Bool.{Bool}
 use mathlib.Core.Path.{_≡_, ap, _∙_}
 use mathlib.Core.List.{List}
 use Prim.Native.Nat.{ℕ, _+_, _^_, _≤_, _<_}
@@ -30,10 +31,10 @@ steps-fit bytes small long =
     eight = omega (arith, length-take 8 (drop 3 bytes), length-drop 3 bytes)
 
 -- An accepted load gives such a checkpoint.
-pub load-sized : (P : Problem) (bytes : List ℕ) → Bytes bytes → loading P bytes .answer ≡ passed → Sized (loading P bytes .checkpoint)
+pub load-sized : (connected : Bool) (P : Problem) (bytes : List ℕ) → Bytes bytes → loading connected P bytes .answer ≡ passed → Sized (loading connected P bytes .checkpoint)
 unfolding said
-load-sized P bytes small e =
-    let found = load-accepted P bytes e in
+load-sized connected P bytes small e =
+    let found = load-accepted connected P bytes e in
     let few = found .sound .old-sound .order-max in
     let f = formed (P .old .order) bytes (found .whole) in
     rw (found .loaded) (record {

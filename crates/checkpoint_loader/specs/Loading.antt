@@ -1,6 +1,6 @@
 -- What checkpoint bytes say, and loading them: 01, "Bookmark and calls", last paragraph, and the rows "Bookmark bytes" and "Bookmark" of the refusals;
--- 02, U1, "Saving and loading a bookmark take the list too".
-use mathlib.Core.Bool.{cond}
+-- 02, U1, "Saving and loading a bookmark take the list too", and U7, "else 14, when saved or loaded for this search too".
+use mathlib.Core.Bool.{Bool, cond}
 use mathlib.Core.List.{List, [], _∷_}
 use mathlib.Core.Option.{Option, none, some}
 use Prim.Native.Nat.{ℕ, _+_, _-_, _*_, _/_}
@@ -52,13 +52,13 @@ abbrev pub refuse : Answer → Loading
 refuse answer = record { answer = answer; checkpoint = freshCheckpoint 0 }
 
 -- "14 not in shape", for the checkpoint that the bytes say
-abbrev pub onShape : Problem → Checkpoint → Loading
-onShape P c = cond (inShape P c) (record { answer = passed; checkpoint = c }) (refuse (refused 14))
+abbrev pub onShape : Bool → Problem → Checkpoint → Loading
+onShape connected P c = cond (inShape connected P c) (record { answer = passed; checkpoint = c }) (refuse (refused 14))
 
-abbrev pub onForm : Problem → List ℕ → Option ℕ → Loading
-onForm P bytes (some at) = refuse (refusedAt 17 at)
-onForm P bytes none = onShape P (said (P .old .order) bytes)
+abbrev pub onForm : Bool → Problem → List ℕ → Option ℕ → Loading
+onForm connected P bytes (some at) = refuse (refusedAt 17 at)
+onForm connected P bytes none = onShape connected P (said (P .old .order) bytes)
 
 -- 10, 11, 12, 23 and 24; then 17 with its place; then 14
-unfoldable pub loading : Problem → List ℕ → Loading
-loading P bytes = whenPassed (problemAnswer P) (onForm P bytes (formFault (P .old .order) bytes)) refuse
+unfoldable pub loading : Bool → Problem → List ℕ → Loading
+loading connected P bytes = whenPassed (problemAnswer P) (onForm connected P bytes (formFault (P .old .order) bytes)) refuse

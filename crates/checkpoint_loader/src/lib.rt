@@ -53,15 +53,16 @@ fn refuse(answer: LoadAnswer) -> Loaded
     }
 }
 
-// The checkpoint that the bytes say, if they are in the form and it is in shape for the two graphs and the substitutes.
+// The checkpoint that the bytes say, if they are in the form and it is in shape for the two graphs, the substitutes and the search.
 pub fn load_checkpoint<'a>(
     orders: Orders,
     labels: Labels<'a>,
     edges: Edges<'a>,
     substitutes: &[u8],
+    connected: bool,
     bytes: &[u8],
 ) -> Loaded
-    ensures { λ r. ⌜ loadingOf r ≡ loading (lent orders (labels .entry) (edges .entry) (now (substitutes .entry))) (now (bytes .entry)) ⌝ }
+    ensures { λ r. ⌜ loadingOf r ≡ loading connected (lent orders (labels .entry) (edges .entry) (now (substitutes .entry))) (now (bytes .entry)) ⌝ }
 {
     match problem::check_problem(orders, labels, edges, substitutes) {
         ProblemAnswer::Flawed(flaw) => {
@@ -76,7 +77,7 @@ pub fn load_checkpoint<'a>(
         Form::Whole => {}
     }
     let checkpoint = loader::read_formed(orders[0], bytes);
-    match checkpoint::check_checkpoint(orders, labels, edges, substitutes, checkpoint) {
+    match checkpoint::check_checkpoint(orders, labels, edges, substitutes, connected, checkpoint) {
         ShapeAnswer::InShape => Loaded {
             answer: LoadAnswer::InShape,
             checkpoint,

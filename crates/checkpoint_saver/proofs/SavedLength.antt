@@ -36,6 +36,6 @@ incumbent-few n true = omega arith
 incumbent-few n false = omega arith
 
 -- "At most 270 bytes."
-pub saved-max : (P : Problem) → SoundProblem P → (c : Checkpoint) → InShape P c → length (checkpointBytes (P .old .order) c) ≤ maxBytes
-saved-max P sound c shape =
+pub saved-max : (connected : Bool) (P : Problem) → SoundProblem P → (c : Checkpoint) → InShape connected P c → length (checkpointBytes (P .old .order) c) ≤ maxBytes
+saved-max connected P sound c shape =
     omega (arith, saved-length (P .old .order) c, shape .depth-max, sound .old-sound .order-max, incumbent-few (P .old .order) (c .holds))

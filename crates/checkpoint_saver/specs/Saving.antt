@@ -1,5 +1,5 @@
 -- The bytes of a checkpoint, and saving them into a lent buffer: 01, "Bookmark and calls", last paragraph, and the row "Output" of the refusals;
--- 02, U1, "Saving and loading a bookmark take the list too".
+-- 02, U1, "Saving and loading a bookmark take the list too", and U7, "else 14, when saved or loaded for this search too".
 use mathlib.Core.Bool.{Bool, cond}
 use mathlib.Core.List.{List, [], _∷_, _++_}
 use Prim.Native.Nat.{ℕ, _+_}
@@ -40,5 +40,5 @@ abbrev pub savingOf : SaveAnswer → List ℕ → Writing
 savingOf r buffer = record { answer = saveAnswer r; buffer = buffer }
 
 -- 10, 11, 12, 23 and 24; then 14; then 13; "Writers change only the bytes they fill", and a refusal changes nothing
-unfoldable pub saving : Problem → Checkpoint → List ℕ → Writing
-saving P c buffer = writeIf (checkpointAnswer P c) (checkpointBytes (P .old .order) c) buffer
+unfoldable pub saving : Bool → Problem → Checkpoint → List ℕ → Writing
+saving connected P c buffer = writeIf (checkpointAnswer connected P c) (checkpointBytes (P .old .order) c) buffer

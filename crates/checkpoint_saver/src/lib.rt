@@ -78,19 +78,20 @@ fn incumbent_entries(order: usize, holds: bool) -> usize
     0
 }
 
-// Writes the checkpoint's bytes to the front of `out`.
+// Writes the bytes of a checkpoint of the first search, or of the connected one, to the front of `out`.
 pub fn save_checkpoint<'a>(
     orders: Orders,
     labels: Labels<'a>,
     edges: Edges<'a>,
     substitutes: &[u8],
+    connected: bool,
     checkpoint: Checkpoint,
     out: &mut [u8],
 ) -> SaveAnswer
     ensures { λ r. ⌜ savingOf r (now (out .exit))
-        ≡ saving (lent orders (labels .entry) (edges .entry) (now (substitutes .entry))) checkpoint (now (out .entry)) ⌝ }
+        ≡ saving connected (lent orders (labels .entry) (edges .entry) (now (substitutes .entry))) checkpoint (now (out .entry)) ⌝ }
 {
-    match checkpoint::check_checkpoint(orders, labels, edges, substitutes, checkpoint) {
+    match checkpoint::check_checkpoint(orders, labels, edges, substitutes, connected, checkpoint) {
         ShapeAnswer::Flawed(flaw) => SaveAnswer::Flawed(flaw),
         ShapeAnswer::OutOfShape => SaveAnswer::OutOfShape,
         ShapeAnswer::InShape => saver::save_in_shape(orders[0], checkpoint, out),

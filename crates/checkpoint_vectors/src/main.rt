@@ -1,5 +1,5 @@
 // Saves and loads checkpoints and writes what each call says. The bytes and the expected output were worked out by hand from document 01,
-// "Bookmark and calls" and "Refusals by place of checking", and those with a list of substitutes from document 02, U1 and U6.
+// "Bookmark and calls" and "Refusals by place of checking", those with a list of substitutes from document 02, U1 and U6, and those of both searches from U7.
 
 mod lines;
 
@@ -32,9 +32,17 @@ fn load<'a>(
     labels: Labels<'a>,
     edges: Edges<'a>,
     substitutes: &[u8],
+    connected: bool,
     bytes: &[u8],
 ) {
-    let loaded = checkpoint_loader::load_checkpoint(orders, labels, edges, substitutes, bytes);
+    let loaded = checkpoint_loader::load_checkpoint(
+        orders,
+        labels,
+        edges,
+        substitutes,
+        connected,
+        bytes,
+    );
     let answer = loaded.answer;
     let checkpoint = loaded.checkpoint;
     lines::word(name);
@@ -47,6 +55,7 @@ fn load<'a>(
             labels,
             edges,
             substitutes,
+            connected,
             checkpoint,
             &mut buffer,
         ));
@@ -55,7 +64,7 @@ fn load<'a>(
     lines::word(b"\n");
 }
 
-fn case(name: &[u8], old: &[u8], new: &[u8], substitutes: &[u8], bytes: &[u8]) {
+fn case_of(connected: bool, name: &[u8], old: &[u8], new: &[u8], substitutes: &[u8], bytes: &[u8]) {
     let mut old_labels = [0u16; 64];
     let mut old_edges = [0u8; 4096];
     let mut new_labels = [0u16; 64];
@@ -68,8 +77,14 @@ fn case(name: &[u8], old: &[u8], new: &[u8], substitutes: &[u8], bytes: &[u8]) {
         [&old_labels, &new_labels],
         [&old_edges, &new_edges],
         substitutes,
+        connected,
         bytes,
     );
+}
+
+// For the first search.
+fn case(name: &[u8], old: &[u8], new: &[u8], substitutes: &[u8], bytes: &[u8]) {
+    case_of(false, name, old, new, substitutes, bytes);
 }
 
 // 01's pair P, with no substitutes. Old kinds 7, 9, 7, links 0-1 and 1-2 of kind 1; new kinds 9, 7, link 0-1 of kind 1.
@@ -283,6 +298,7 @@ fn load_nothing(name: &[u8], orders: Orders, label: Label, substitutes: &[u8]) {
         [&labels, &labels],
         [&edges, &edges],
         substitutes,
+        false,
         b"",
     );
 }
@@ -311,6 +327,7 @@ fn save(name: &[u8], depth: usize, edge: u8, substitutes: &[u8], out: &mut [u8])
         [&labels, &labels],
         [&edges, &edges],
         substitutes,
+        false,
         Checkpoint {
             minimum: 0,
             steps: 9,
@@ -448,6 +465,7 @@ fn save_one_visit(name: &[u8], substitutes: &[u8], due: &[u8]) {
         [&old_labels, &new_labels],
         [&edges, &edges],
         substitutes,
+        false,
         Checkpoint {
             minimum: 0,
             steps: 1,
@@ -489,6 +507,111 @@ fn saved_with_lists() {
     );
 }
 
+// A graph and itself, for the first search and then for the connected one.
+fn both(name: &[u8], graph: &[u8], bytes: &[u8]) {
+    case_of(false, name, graph, graph, b"", bytes);
+    case_of(true, b"the same, connected", graph, graph, b"", bytes);
+}
+
+// Three vertices of label 7, the first two joined by an edge.
+fn on_loose(name: &[u8], bytes: &[u8]) {
+    both(
+        name,
+        b"\x04\x02\x03\x07\x00\x03\x07\x00\x03\x07\x00\x02\x00\x01\x01\x00",
+        bytes,
+    );
+}
+
+// The same with an edge of the last two.
+fn on_chain(name: &[u8], bytes: &[u8]) {
+    both(
+        name,
+        b"\x04\x02\x03\x07\x00\x03\x07\x00\x03\x07\x00\x02\x00\x01\x01\x02\x01\x02\x09\x00",
+        bytes,
+    );
+}
+
+// What is held must hang together in the connected search.
+fn connected_ones() {
+    on_loose(
+        b"all held, one loose",
+        b"\x10\x00\x11\x04\x00\x00\x00\x00\x00\x00\x00\x12\x01\x13\x00\x13\x01\x13\xff\x14\x00\x14\x01\x14\x02\x00",
+    );
+    on_loose(
+        b"the joined two held",
+        b"\x10\x00\x11\x05\x00\x00\x00\x00\x00\x00\x00\x12\x01\x13\x00\x13\xff\x14\x00\x14\x01\x14\xff\x00",
+    );
+    on_loose(
+        b"one held",
+        b"\x10\x00\x11\x09\x00\x00\x00\x00\x00\x00\x00\x12\x03\x14\xff\x14\xff\x14\x02\x00",
+    );
+    on_loose(
+        b"none of them held",
+        b"\x10\x00\x11\x09\x00\x00\x00\x00\x00\x00\x00\x12\x03\x14\xff\x14\xff\x14\xff\x00",
+    );
+    on_loose(
+        b"all held, and a byte after the end",
+        b"\x10\x00\x11\x04\x00\x00\x00\x00\x00\x00\x00\x12\x01\x13\x00\x13\x01\x13\xff\x14\x00\x14\x01\x14\x02\x00\x00",
+    );
+}
+
+fn connected_chains() {
+    on_chain(
+        b"a chain held, its edges of two labels",
+        b"\x10\x00\x11\x04\x00\x00\x00\x00\x00\x00\x00\x12\x03\x14\x00\x14\x01\x14\x02\x00",
+    );
+    on_chain(
+        b"its ends held",
+        b"\x10\x00\x11\x09\x00\x00\x00\x00\x00\x00\x00\x12\x03\x14\x00\x14\xff\x14\x02\x00",
+    );
+    both(
+        b"two with own edges held",
+        b"\x04\x02\x03\x07\x00\x03\x07\x00\x02\x00\x00\x01\x02\x01\x01\x01\x00",
+        b"\x10\x00\x11\x09\x00\x00\x00\x00\x00\x00\x00\x12\x03\x14\x00\x14\x01\x00",
+    );
+}
+
+// Saves a finished checkpoint that holds three vertices without an edge.
+fn save_loose(name: &[u8], connected: bool, out: &mut [u8]) {
+    let mut labels = [0u16; 64];
+    labels[0] = 7;
+    labels[1] = 7;
+    labels[2] = 7;
+    let edges = [0u8; 4096];
+    let mut incumbent = [0u8; 64];
+    incumbent[1] = 1;
+    incumbent[2] = 2;
+    let answer = checkpoint_saver::save_checkpoint(
+        [3, 3],
+        [&labels, &labels],
+        [&edges, &edges],
+        b"",
+        connected,
+        Checkpoint {
+            minimum: 0,
+            steps: 9,
+            depth: 0,
+            path: [0u8; 64],
+            finished: true,
+            holds: true,
+            incumbent,
+        },
+        out,
+    );
+    lines::word(name);
+    lines::saved(answer);
+    lines::word(b"\n");
+}
+
+fn saved_for_both() {
+    let mut room = [170u8; 20];
+    let mut short = [170u8; 19];
+    save_loose(b"three loose ones saved", false, &mut room);
+    save_loose(b"three loose ones, one byte short", false, &mut short);
+    save_loose(b"three loose ones saved, connected", true, &mut room);
+    save_loose(b"and one byte short", true, &mut short);
+}
+
 fn main() {
     accepted();
     malformed();
@@ -514,4 +637,7 @@ fn main() {
     longest();
     unsound_lists();
     saved_with_lists();
+    connected_ones();
+    connected_chains();
+    saved_for_both();
 }

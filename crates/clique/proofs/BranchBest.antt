@@ -1,5 +1,5 @@
--- Clique branching holds what the finished walk holds: a largest common subgraph and of those the first, or nothing where none reaches the minimum
--- (02, U2).
+-- Clique branching holds what the finished walk of the first search holds: a largest common subgraph and of those the first, or nothing where none reaches the
+-- minimum (02, U2).
 use mathlib.Core.Path.{_≡_}
 use mathlib.Core.Logic.{_↔_, ⊎-elim}
 use mathlib.Core.Bool.{true, false}
@@ -35,7 +35,7 @@ use Rattle.search_tree.proofs.Children.{children-inner}
 use Rattle.search_tree.proofs.LawfulTree.{lawful}
 use Rattle.search_tree.proofs.ReachedCommon.{last-common}
 use Rattle.search_tree.proofs.Best.{best-same, best-none}
-use Rattle.search_tree.proofs.WalkTheorems.{rules-regular, common-best-unique}
+use Rattle.search_tree.proofs.WalkTheorems.{rules-regular, common-good, good-best-unique}
 use Rattle.clique.specs.Branching.{branchRow, branchChoices, branch}
 use Rattle.clique.proofs.Turns.{row-end, row-turns, choices-end, choices-turns}
 use Rattle.clique.proofs.Kept.{Kept, kept-none, kept-one, kept-then, kept-same, kept-best}
@@ -78,15 +78,15 @@ module _ (S : Search) (minimum : ℕ) where
 module _ (P : Problem) (sound : SoundProblem P) (minimum : ℕ) where
   -- Clique branching of a sound problem holds the best common subgraph.
   pub branch-best : Best (Common P) minimum (branch P minimum)
-  branch-best = best-same (last-common P sound) (row-best (searchOf P) minimum (rules-regular P sound))
+  branch-best = best-same (last-common P sound false) (row-best (searchOf false P) minimum (rules-regular P sound))
 
   -- It holds nothing exactly where no common subgraph reaches the minimum.
   pub branch-none : (branch P minimum ≡ none) ↔ ((l : List ℕ) → Common P l → size l < minimum)
   branch-none = best-none (branch P minimum) branch-best
 
-  -- It holds what the walk holds at its total.
-  pub branch-finished : {t : ℕ} → IsTotal (searchOf P) minimum t → branch P minimum ≡ after (searchOf P) minimum t .incumbent
-  branch-finished total = common-best-unique P sound minimum total (branch P minimum) branch-best
+  -- It holds what the walk of the first search holds at its total.
+  pub branch-finished : {t : ℕ} → IsTotal (searchOf false P) minimum t → branch P minimum ≡ after (searchOf false P) minimum t .incumbent
+  branch-finished total = good-best-unique false P sound minimum total (branch P minimum) (best-same (common-good P) branch-best)
 
   -- What it holds has an entry for each old vertex.
   pub branch-length : (l : List ℕ) → branch P minimum ≡ some l → length l ≡ P .old .order

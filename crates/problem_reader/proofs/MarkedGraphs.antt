@@ -131,6 +131,10 @@ pub sevens-sound : SoundProblem (between (sevens 1) (sevens 2))
 unfolding reading readingEdition readFile opens readAt readFrom judge bytes
 sevens-sound = between-sound (sevens 1) (sevens 2) refl refl 2 2 refl refl
 
+pub loose-sound : SoundProblem (between loose loose)
+unfolding reading readingEdition readFile opens readAt readFrom judge bytes
+loose-sound = between-sound loose loose refl refl 3 3 refl refl
+
 -- one part held by itself against one that is not
 pub held-sound : SoundProblem (between (held 1) one)
 unfolding reading readingEdition readFile opens readAt readFrom judge bytes

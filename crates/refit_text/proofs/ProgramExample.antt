@@ -1,7 +1,7 @@
 -- 01, "The refit program": its example byte for byte, and a text of each other kind that the program prints, by `refitText`. The readings, the
 -- walk and the lines are computed; that the graphs read are sound is cited, as computing it would take minutes.
 use mathlib.Core.Path.{_≡_, refl, ap}
-use mathlib.Core.Bool.{true}
+use mathlib.Core.Bool.{true, false}
 use mathlib.Core.List.{List, [], _∷_}
 use Prim.Native.Char.{code}
 use Prim.Native.String as string
@@ -59,14 +59,14 @@ module _ (old new input : List ℕ) (n m : ℕ)
   -- the lines of the walk after so many visits
   abbrev walked : List ℕ
   walked =
-      let s = after (searchOf P) (minimumOf input) (budgetOf input) in
+      let s = after (searchOf false P) (minimumOf input) (budgetOf input) in
       acceptedText n m (ceiling (rulesOf P) (minimumOf input) s) (checkpointOf (minimumOf input) s)
 
   searched : searchText P (minimumOf input) (budgetOf input) ≡ walked
   unfolding searchText
   searched =
       ap (λ (r : Called). reportText n m (r .answer) (r .checkpoint))
-      (fresh-call P sound (minimumOf input) (budgetOf input) (replicate wordsNeeded 0) (omega (arith, length-replicate {A = ℕ} wordsNeeded 0)) fits)
+      (fresh-call false P sound (minimumOf input) (budgetOf input) (replicate wordsNeeded 0) (omega (arith, length-replicate {A = ℕ} wordsNeeded 0)) fits)
 
   printed : refitText old new input ≡ walked
   unfolding refitText readProblem readingProblem

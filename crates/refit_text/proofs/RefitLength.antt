@@ -1,7 +1,7 @@
 -- All that refit prints fits into the 8,192 bytes of the program's buffer: the lines of an accepted call, and the line of every refusal.
 use mathlib.Core.Path.{_≡_, refl, sym, ap₂, _∙_}
 use mathlib.Core.Logic.{inl, inr, ⊎-elim}
-use mathlib.Core.Bool.{cond, _&&_, false≢true}
+use mathlib.Core.Bool.{cond, _&&_, false≢true, false}
 use mathlib.Core.List.{List, []}
 use mathlib.Core.Option.{Option, none, some}
 use Prim.Native.Nat.{ℕ, _+_, _-_, _^_, _≤_, _<_}
@@ -65,17 +65,17 @@ module _ (P : Problem) (sound : SoundProblem P) (minimum : ℕ) where
       )
 
   -- the ceiling never rises above that of a fresh search
-  ceiling-max : (k : ℕ) → ceiling (rulesOf P) minimum (after (searchOf P) minimum k) ≤ minimum + 65
+  ceiling-max : (k : ℕ) → ceiling (rulesOf P) minimum (after (searchOf false P) minimum k) ≤ minimum + 65
   unfolding ceiling after openNodes laterSiblings topBound
   ceiling-max k =
       omega (
         arith,
         root-bound,
-        ceiling-falls (searchOf P) (rules-regular P sound .few) minimum (lawful (searchOf P) (rules-regular P sound)) 0 k (omega arith),
+        ceiling-falls (searchOf false P) (rules-regular P sound .few) minimum (lawful (searchOf false P) (rules-regular P sound)) 0 k (omega arith),
       )
 
   -- the entries of what is held are new vertices or 255
-  entry-word : (held : Option (List ℕ)) → EachIncumbent (searchOf P) minimum held → (i : ℕ) → getD (take (P .old .order) (incumbentBytes held)) i 0 < 2 ^ 64
+  entry-word : (held : Option (List ℕ)) → EachIncumbent (searchOf false P) minimum held → (i : ℕ) → getD (take (P .old .order) (incumbentBytes held)) i 0 < 2 ^ 64
   entry-word none each i = go (decLt i (P .old .order))
     where
       go : Dec (i < P .old .order) → getD (take (P .old .order) (incumbentBytes none)) i 0 < 2 ^ 64
@@ -93,16 +93,16 @@ module _ (P : Problem) (sound : SoundProblem P) (minimum : ℕ) where
       go (no h) = omega (arith, List·getD-eq-default l 0 {n = i} (omega arith))
 
   accepted-short : (k : ℕ) → minimum ≤ 255 → k < 2 ^ 64
-      → length (acceptedText (P .old .order) (P .new .order) (ceiling (rulesOf P) minimum (after (searchOf P) minimum k)) (checkpointOf minimum (after (searchOf P) minimum k))) ≤ 8192
+      → length (acceptedText (P .old .order) (P .new .order) (ceiling (rulesOf P) minimum (after (searchOf false P) minimum k)) (checkpointOf minimum (after (searchOf false P) minimum k))) ≤ 8192
   unfolding acceptedText checkpointOf
   accepted-short k byte fits =
-      let s = after (searchOf P) minimum k in
-      let end = walk-ends P sound minimum in
+      let s = after (searchOf false P) minimum k in
+      let end = walk-ends false P sound minimum in
       length-accepted (take (P .old .order) (incumbentBytes (s .incumbent)))
       (omega (arith, sound .old-sound .order-max, length-take (P .old .order) (incumbentBytes (s .incumbent))))
-      (entry-word (s .incumbent) (after-shape (searchOf P) minimum k .incumbent-shape))
+      (entry-word (s .incumbent) (after-shape (searchOf false P) minimum k .incumbent-shape))
       (s .finished) (hasIncumbent (s .incumbent)) (s .steps) (ceiling (rulesOf P) minimum s) (P .new .order)
-      (omega (arith, steps-total (searchOf P) minimum (end .1) k))
+      (omega (arith, steps-total (searchOf false P) minimum (end .1) k))
       (omega (arith, ceiling-max k))
       (sound .new-sound .order-max)
 
@@ -115,9 +115,9 @@ module _ (P : Problem) (minimum budget : ℕ) (byte : minimum ≤ 255) where
 
   sound-short : SoundProblem P → length (searchText P minimum budget) ≤ 8192
   unfolding searchText after checkpointOf
-  sound-short sound = go (searchCall P (freshCheckpoint minimum) budget words) (walk-course P sound minimum 0 budget words)
+  sound-short sound = go (searchCall false P (freshCheckpoint minimum) budget words) (walk-course false P sound minimum 0 budget words)
     where
-      go : (r : Called) → Course P minimum 0 budget words r → length (printed r) ≤ 8192
+      go : (r : Called) → Course false P minimum 0 budget words r → length (printed r) ≤ 8192
       go r (few l e) = rw e (refused-short 15 (omega arith))
       go r (full l busy above e) = rw e (refused-short 16 (omega arith))
       go r (done l (inl end) e) = absurd (false≢true end)
@@ -125,10 +125,10 @@ module _ (P : Problem) (minimum budget : ℕ) (byte : minimum ≤ 255) where
 
   search-short : length (searchText P minimum budget) ≤ 8192
   unfolding searchText searchCall
-  search-short = go (checkpointAnswer P (freshCheckpoint minimum)) refl (checkpoint-plain P (freshCheckpoint minimum))
+  search-short = go (checkpointAnswer false P (freshCheckpoint minimum)) refl (checkpoint-plain false P (freshCheckpoint minimum))
     where
-      go : (a : Answer) → checkpointAnswer P (freshCheckpoint minimum) ≡ a → Plain a → length (searchText P minimum budget) ≤ 8192
-      go passed e h = sound-short (passes-shape P (freshCheckpoint minimum) e .0)
+      go : (a : Answer) → checkpointAnswer false P (freshCheckpoint minimum) ≡ a → Plain a → length (searchText P minimum budget) ≤ 8192
+      go passed e h = sound-short (passes-shape false P (freshCheckpoint minimum) e .0)
       go (accepted n) e h = absurd h
       go (refused n) e h = rw e (refused-short n h)
       go (refusedAt n at) e h = rw e (refused-short n h)

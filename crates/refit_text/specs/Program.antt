@@ -1,5 +1,5 @@
 -- All that the refit program prints, of what it reads: 01, "The refit program".
-use mathlib.Core.Bool.{cond}
+use mathlib.Core.Bool.{cond, false}
 use mathlib.Core.List.{List, [], _∷_}
 use Prim.Native.Nat.{ℕ}
 use lib.Dec.{eqb}
@@ -20,10 +20,10 @@ minimumOf input = getD input 0 0
 abbrev pub budgetOf : List ℕ → ℕ
 budgetOf input = fromLittle (take 8 (drop 1 input))
 
--- one search call from a fresh checkpoint
+-- one call of the first search, from a fresh checkpoint
 unfoldable pub searchText : Problem → ℕ → ℕ → List ℕ
 searchText P minimum budget =
-    let r = searchCall P (freshCheckpoint minimum) budget (replicate wordsNeeded 0) in
+    let r = searchCall false P (freshCheckpoint minimum) budget (replicate wordsNeeded 0) in
     reportText (P .old .order) (P .new .order) (r .answer) (r .checkpoint)
 
 -- "other than nine input bytes, tested first, print refused input"

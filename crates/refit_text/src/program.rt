@@ -31,7 +31,17 @@ fn search_first<'a>(
         ≡ searchText (lent orders (labels .entry) (edges .entry) []) minimum budget ⌝ }
 {
     let mut workspace = [0u64; WORDS];
-    resume::start(orders, labels, edges, &[], minimum, budget, &mut workspace)
+    // refit has the first search only
+    resume::start(
+        orders,
+        labels,
+        edges,
+        &[],
+        false,
+        minimum,
+        budget,
+        &mut workspace,
+    )
 }
 
 // Both graphs are read, and the old one's refusal comes first.

@@ -1,6 +1,6 @@
 -- What a search call and a reading out from checkpoint bytes return, arm by arm of the answers that the code matches on.
 use mathlib.Core.Path.{_≡_, refl, sym, ap, subst, _∙_}
-use mathlib.Core.Bool.{cond}
+use mathlib.Core.Bool.{Bool, cond}
 use mathlib.Core.List.{List, [], _∷_}
 use Prim.Native.Nat.{ℕ, _≤_, _<_}
 use native.Mathlib.Omega.{arith}
@@ -39,12 +39,12 @@ use Rattle.replies.specs.Resumed.{Resumed, resumed, notResumed, saveOn, 
 use Rattle.replies.specs.ReadOut.{ReadOut, readOut, notReadOut, heldIn, readCheckpoint, readLoaded, readBytes}
 use Rattle.replies.proofs.CallKept.{Ways, Positive, save-kept, search-kept}
 
-module _ (P : Problem) (c : Checkpoint) (budget : ℕ) (workspace next : List ℕ)
-    (r : Searched) (called : FoundBy r (searchCall P c budget workspace))
+module _ (connected : Bool) (P : Problem) (c : Checkpoint) (budget : ℕ) (workspace next : List ℕ)
+    (r : Searched) (called : FoundBy r (searchCall connected P c budget workspace))
   where
     -- the workspace that the call leaves
     abbrev left : List ℕ
-    left = searchCall P c budget workspace .workspace
+    left = searchCall connected P c budget workspace .workspace
 
     -- the call with this answer
     abbrev with-answer : SearchAnswer → Called
@@ -54,28 +54,28 @@ module _ (P : Problem) (c : Checkpoint) (budget : ℕ) (workspace next : List �
       -- A call that gives a ceiling was lent the words that it needs, and clears them.
       pub accepted-words : (wordsNeeded ≤ length workspace) × (left ≡ cleared workspace)
       accepted-words =
-          let e : searchCall P c budget workspace .answer ≡ accepted ceiling = sym (ap (λ (q : Called). q .answer) called) ∙ ap searchAnswer arm in
+          let e : searchCall connected P c budget workspace .answer ≡ accepted ceiling = sym (ap (λ (q : Called). q .answer) called) ∙ ap searchAnswer arm in
           subst
           (λ (a : Answer). Ways RefusalNumber ((wordsNeeded ≤ length workspace) × (left ≡ cleared workspace))
-          ((left ≡ workspace) × (searchCall P c budget workspace .checkpoint ≡ c)) a) e
-          (search-kept P c budget workspace)
+          ((left ≡ workspace) × (searchCall connected P c budget workspace .checkpoint ≡ c)) a) e
+          (search-kept connected P c budget workspace)
 
-      module _ (s : SaveAnswer) (after : List ℕ) (saves : savingOf s after ≡ saving P (r .checkpoint) next) where
+      module _ (s : SaveAnswer) (after : List ℕ) (saves : savingOf s after ≡ saving connected P (r .checkpoint) next) where
         -- what is saved of the call, by the answer of the save
         abbrev by-save : SaveAnswer → Resumed
         by-save s =
             whenAccepted (saveAnswer s) (λ (count : ℕ). resumed (reply 0 count) ceiling left after) (notResumed workspace next)
 
-        saved-call : by-save s ≡ searchFrom P c budget workspace next
+        saved-call : by-save s ≡ searchFrom connected P c budget workspace next
         unfolding searchFrom
         saved-call =
             ap (λ (w : Writing). whenAccepted (w .answer) (λ count. resumed (reply 0 count) ceiling left (w .buffer)) (notResumed workspace next)) saves
-            ∙ ap (λ (a : SearchAnswer). saveOn P (with-answer a) workspace next) (sym arm)
-            ∙ ap (λ (q : Called). saveOn P q workspace next) called
+            ∙ ap (λ (a : SearchAnswer). saveOn connected P (with-answer a) workspace next) (sym arm)
+            ∙ ap (λ (q : Called). saveOn connected P q workspace next) called
 
         -- Saved, its count and ceiling are returned, and the lent words are cleared.
         pub search-saved : (count : ℕ) → s ≡ SaveAnswer.Written count → (words : List ℕ) → words ≡ cleared workspace
-            → resumed (reply 0 count) ceiling words after ≡ searchFrom P c budget workspace next
+            → resumed (reply 0 count) ceiling words after ≡ searchFrom connected P c budget workspace next
         search-saved count written words clear =
             ap (λ (w : List ℕ). resumed (reply 0 count) ceiling w after) (clear ∙ sym (accepted-words .1))
             ∙ ap by-save (sym written)
@@ -90,7 +90,7 @@ module _ (P : Problem) (c : Checkpoint) (budget : ℕ) (workspace next : List �
 
         -- a refused save leaves the buffer as it was
         unsaved : OneOf (1 ∷ 2 ∷ 3 ∷ []) (tagOf save-tags.the-type s) → after ≡ next
-        unsaved = go s (subst (λ (w : Writing). Ways Positive (Unit {0}) (w .buffer ≡ next) (w .answer)) (sym saves) (save-kept P (r .checkpoint) next))
+        unsaved = go s (subst (λ (w : Writing). Ways Positive (Unit {0}) (w .buffer ≡ next) (w .answer)) (sym saves) (save-kept connected P (r .checkpoint) next))
           where
             go : (a : SaveAnswer) → Ways Positive (Unit {0}) (after ≡ next) (saveAnswer a) → OneOf (1 ∷ 2 ∷ 3 ∷ []) (tagOf save-tags.the-type a) → after ≡ next
             go (SaveAnswer.Written n) h k = absurd (miss (1 ∷ 2 ∷ 3 ∷ []) 0 tt k)
@@ -100,7 +100,7 @@ module _ (P : Problem) (c : Checkpoint) (budget : ℕ) (workspace next : List �
 
         -- Not saved, the refusal is handed on, and both lent buffers are as they were.
         pub search-unsaved : OneOf (1 ∷ 2 ∷ 3 ∷ []) (tagOf save-tags.the-type s) → (t : Reply) → t ≡ replyOf (saveAnswer s)
-            → resumed t 0 workspace after ≡ searchFrom P c budget workspace next
+            → resumed t 0 workspace after ≡ searchFrom connected P c budget workspace next
         search-unsaved arm t replied =
             ap (λ (b : List ℕ). resumed t 0 workspace b) (unsaved arm)
             ∙ ap (λ (u : Reply). resumed u 0 workspace next) replied
@@ -109,7 +109,7 @@ module _ (P : Problem) (c : Checkpoint) (budget : ℕ) (workspace next : List �
 
     -- the arm `_`: 1 to 4 are the tags of the answers that are no ceiling
     off-search : (a : SearchAnswer) → OneOf (1 ∷ 2 ∷ 3 ∷ 4 ∷ []) (tagOf search-tags.the-type a)
-        → notResumed workspace next (searchAnswer a) ≡ saveOn P (with-answer a) workspace next
+        → notResumed workspace next (searchAnswer a) ≡ saveOn connected P (with-answer a) workspace next
     off-search (SearchAnswer.Ceiling n) k = absurd (miss (1 ∷ 2 ∷ 3 ∷ 4 ∷ []) 0 tt k)
     off-search (SearchAnswer.Flawed f) k = refl
     off-search SearchAnswer.OutOfShape k = refl
@@ -118,14 +118,14 @@ module _ (P : Problem) (c : Checkpoint) (budget : ℕ) (workspace next : List �
 
     -- A call that is refused is handed on.
     pub search-refused : OneOf (1 ∷ 2 ∷ 3 ∷ 4 ∷ []) (tagOf search-tags.the-type (r .answer)) → (t : Reply) → t ≡ replyOf (searchAnswer (r .answer))
-        → resumed t 0 workspace next ≡ searchFrom P c budget workspace next
+        → resumed t 0 workspace next ≡ searchFrom connected P c budget workspace next
     unfolding searchFrom
     search-refused arm t replied =
         ap (λ (u : Reply). resumed u 0 workspace next) replied
         ∙ off-search (r .answer) arm
-        ∙ ap (λ (q : Called). saveOn P q workspace next) called
+        ∙ ap (λ (q : Called). saveOn connected P q workspace next) called
 
-module _ (P : Problem) (bytes : List ℕ) (r : Loaded) (loads : loadingOf r ≡ loading P bytes) where
+module _ (connected : Bool) (P : Problem) (bytes : List ℕ) (r : Loaded) (loads : loadingOf r ≡ loading connected P bytes) where
   -- the load, with this answer
   abbrev by : LoadAnswer → Loading
   by a = loadingOf (record { answer = a; checkpoint = r .checkpoint })
@@ -133,53 +133,53 @@ module _ (P : Problem) (bytes : List ℕ) (r : Loaded) (loads : loadingOf r ≡ 
   module _ (arm : r .answer ≡ LoadAnswer.InShape) where
     -- A checkpoint that is loaded is searched on.
     pub load-searched : (budget : ℕ) (workspace next : List ℕ) (q : ResumeReply) (words after : List ℕ)
-        → resumed (q .reply) (q .ceiling) words after ≡ searchFrom P (r .checkpoint) budget workspace next
-        → resumed (q .reply) (q .ceiling) words after ≡ resumeFrom P bytes budget workspace next
+        → resumed (q .reply) (q .ceiling) words after ≡ searchFrom connected P (r .checkpoint) budget workspace next
+        → resumed (q .reply) (q .ceiling) words after ≡ resumeFrom connected P bytes budget workspace next
     unfolding resumeFrom
     load-searched budget workspace next q words after searched =
         searched
-        ∙ ap (λ (a : LoadAnswer). loadOn P (by a) budget workspace next) (sym arm)
-        ∙ ap (λ (l : Loading). loadOn P l budget workspace next) loads
+        ∙ ap (λ (a : LoadAnswer). loadOn connected P (by a) budget workspace next) (sym arm)
+        ∙ ap (λ (l : Loading). loadOn connected P l budget workspace next) loads
 
     -- It is read out.
-    pub load-read : (mapping : List ℕ) (x : ReadOut) → x ≡ readCheckpoint P (r .checkpoint) mapping → x ≡ readBytes P bytes mapping
+    pub load-read : (mapping : List ℕ) (x : ReadOut) → x ≡ readCheckpoint connected P (r .checkpoint) mapping → x ≡ readBytes connected P bytes mapping
     unfolding readBytes
     load-read mapping x out =
         out
-        ∙ ap (λ (a : LoadAnswer). readLoaded P (by a) mapping) (sym arm)
-        ∙ ap (λ (l : Loading). readLoaded P l mapping) loads
+        ∙ ap (λ (a : LoadAnswer). readLoaded connected P (by a) mapping) (sym arm)
+        ∙ ap (λ (l : Loading). readLoaded connected P l mapping) loads
 
     -- It is for an old graph of at most 64 vertices.
     pub load-order : P .old .order ≤ 64
-    load-order = load-in-shape P bytes (ap (λ (l : Loading). l .answer) (sym loads) ∙ ap loadAnswer arm) .0 .old-sound .order-max
+    load-order = load-in-shape connected P bytes (ap (λ (l : Loading). l .answer) (sym loads) ∙ ap loadAnswer arm) .0 .old-sound .order-max
 
   -- the arm `_`: 1 to 3 are the tags of the refusals
   module _ (t : Reply) (arm : OneOf (1 ∷ 2 ∷ 3 ∷ []) (tagOf load-tags.the-type (r .answer))) (replied : t ≡ replyOf (loadAnswer (r .answer))) where
     -- A refused load is handed on, and nothing is searched.
-    pub load-not-searched : (budget : ℕ) (workspace next : List ℕ) → resumed t 0 workspace next ≡ resumeFrom P bytes budget workspace next
+    pub load-not-searched : (budget : ℕ) (workspace next : List ℕ) → resumed t 0 workspace next ≡ resumeFrom connected P bytes budget workspace next
     unfolding resumeFrom
     load-not-searched budget workspace next =
         ap (λ (u : Reply). resumed u 0 workspace next) replied
         ∙ off-search (r .answer) arm
-        ∙ ap (λ (l : Loading). loadOn P l budget workspace next) loads
+        ∙ ap (λ (l : Loading). loadOn connected P l budget workspace next) loads
       where
         off-search : (a : LoadAnswer) → OneOf (1 ∷ 2 ∷ 3 ∷ []) (tagOf load-tags.the-type a)
-            → notResumed workspace next (loadAnswer a) ≡ loadOn P (by a) budget workspace next
+            → notResumed workspace next (loadAnswer a) ≡ loadOn connected P (by a) budget workspace next
         off-search LoadAnswer.InShape k = absurd (miss (1 ∷ 2 ∷ 3 ∷ []) 0 tt k)
         off-search (LoadAnswer.Flawed f) k = refl
         off-search (LoadAnswer.Malformed at) k = refl
         off-search LoadAnswer.OutOfShape k = refl
 
     -- Nor is anything read out.
-    pub load-not-read : (mapping : List ℕ) → notReadOut mapping t ≡ readBytes P bytes mapping
+    pub load-not-read : (mapping : List ℕ) → notReadOut mapping t ≡ readBytes connected P bytes mapping
     unfolding readBytes
     load-not-read mapping =
         ap (notReadOut mapping) replied
         ∙ off-read (r .answer) arm
-        ∙ ap (λ (l : Loading). readLoaded P l mapping) loads
+        ∙ ap (λ (l : Loading). readLoaded connected P l mapping) loads
       where
         off-read : (a : LoadAnswer) → OneOf (1 ∷ 2 ∷ 3 ∷ []) (tagOf load-tags.the-type a)
-            → notReadOut mapping (replyOf (loadAnswer a)) ≡ readLoaded P (by a) mapping
+            → notReadOut mapping (replyOf (loadAnswer a)) ≡ readLoaded connected P (by a) mapping
         off-read LoadAnswer.InShape k = absurd (miss (1 ∷ 2 ∷ 3 ∷ []) 0 tt k)
         off-read (LoadAnswer.Flawed f) k = refl
         off-read (LoadAnswer.Malformed at) k = refl
@@ -190,11 +190,11 @@ held-length : (P : Problem) (c : Checkpoint) (entries : ℕ) → entries ≡ con
     → length (c .incumbent) ≡ 64 → length (heldIn P c) ≡ entries
 held-length P c entries e few long = length-take-le _ _ (omega (arith, incumbent-few (P .old .order) (c .holds))) ∙ sym e
 
-module _ (P : Problem) (c : Checkpoint) (mapping : List ℕ) (entries : ℕ) (held : entries ≡ cond (c .holds) (P .old .order) 0)
+module _ (connected : Bool) (P : Problem) (c : Checkpoint) (mapping : List ℕ) (entries : ℕ) (held : entries ≡ cond (c .holds) (P .old .order) 0)
     (few : P .old .order ≤ 64) (long : length (c .incumbent) ≡ 64)
   where
     -- A held mapping that does not fit is refused.
-    pub read-short : length mapping < entries → notReadOut mapping tooShort ≡ readCheckpoint P c mapping
+    pub read-short : length mapping < entries → notReadOut mapping tooShort ≡ readCheckpoint connected P c mapping
     unfolding readCheckpoint
     read-short short =
         let e : length mapping < length (heldIn P c) = omega (arith, held-length P c entries held few long) in
@@ -204,8 +204,8 @@ module _ (P : Problem) (c : Checkpoint) (mapping : List ℕ) (entries : ℕ) (he
     pub read-numbers : entries ≤ length mapping → (state count ceiling : ℕ) (after : List ℕ) (r : Searched) (words : List ℕ)
         → state ≡ stateByte (c .finished) (c .holds) → count ≡ size (take entries (c .incumbent))
         → after ≡ overwrite (take entries (c .incumbent)) mapping
-        → calledOf r words ≡ searchCall P c 0 (replicate wordsNeeded 0) → ceiling ≡ valueOf (searchAnswer (r .answer))
-        → readOut (reply 0 state) (c .steps) count ceiling after ≡ readCheckpoint P c mapping
+        → calledOf r words ≡ searchCall connected P c 0 (replicate wordsNeeded 0) → ceiling ≡ valueOf (searchAnswer (r .answer))
+        → readOut (reply 0 state) (c .steps) count ceiling after ≡ readCheckpoint connected P c mapping
     unfolding readCheckpoint
     read-numbers room state count ceiling after r words p q s called t =
         let e : length (heldIn P c) ≤ length mapping = omega (arith, held-length P c entries held few long) in

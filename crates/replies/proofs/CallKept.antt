@@ -33,9 +33,9 @@ abbrev pub Positive : ℕ → Type 0
 Positive number = 1 ≤ number
 
 -- A save gives a count, or refuses with the buffer as it was.
-pub save-kept : (P : Problem) (c : Checkpoint) (buffer : List ℕ) → let w = saving P c buffer in Ways Positive (Unit {0}) (w .buffer ≡ buffer) (w .answer)
+pub save-kept : (connected : Bool) (P : Problem) (c : Checkpoint) (buffer : List ℕ) → let w = saving connected P c buffer in Ways Positive (Unit {0}) (w .buffer ≡ buffer) (w .answer)
 unfolding saving
-save-kept P c buffer = go (checkpointAnswer P c) (checkpoint-plain P c)
+save-kept connected P c buffer = go (checkpointAnswer connected P c) (checkpoint-plain connected P c)
   where
     Keeps : Writing → Type 0
     Keeps w = Ways Positive (Unit {0}) (w .buffer ≡ buffer) (w .answer)
@@ -46,21 +46,21 @@ save-kept P c buffer = go (checkpointAnswer P c) (checkpoint-plain P c)
     go (refused n) h = (h .0, refl)
     go (refusedAt n at) h = (h .0, refl)
 
-module _ (P : Problem) (c : Checkpoint) (budget : ℕ) where
+module _ (connected : Bool) (P : Problem) (c : Checkpoint) (budget : ℕ) where
   -- what a call of so many words, and of steps that count or do not, gives
   abbrev byTests : Answer → Bool → Bool → List ℕ → Called
   byTests a words counts workspace =
       onPassed a
-      (cond words (cond counts (advance P c budget workspace) (refuse c workspace 16)) (refuse c workspace 15))
+      (cond words (cond counts (advance connected P c budget workspace) (refuse c workspace 16)) (refuse c workspace 15))
       (refuse c workspace)
 
   -- A search call gives a ceiling and clears the words that it needs, or refuses with the checkpoint and the workspace as they were.
   pub search-kept : (workspace : List ℕ)
-      → let r = searchCall P c budget workspace in
+      → let r = searchCall connected P c budget workspace in
       Ways RefusalNumber ((wordsNeeded ≤ length workspace) × (r .workspace ≡ cleared workspace))
       ((r .workspace ≡ workspace) × (r .checkpoint ≡ c)) (r .answer)
   unfolding searchCall advance
-  search-kept workspace = go (checkpointAnswer P c) (checkpoint-plain P c)
+  search-kept workspace = go (checkpointAnswer connected P c) (checkpoint-plain connected P c)
     where
       Keeps : Called → Type 0
       Keeps r =
@@ -78,11 +78,11 @@ module _ (P : Problem) (c : Checkpoint) (budget : ℕ) where
 
   -- two calls whose workspaces both have the words needed, or both lack them, give the same answer and the same checkpoint
   same-call : (v w : List ℕ) → leb wordsNeeded (length v) ≡ leb wordsNeeded (length w)
-      → let r = searchCall P c budget v in
-      let q = searchCall P c budget w in
+      → let r = searchCall connected P c budget v in
+      let q = searchCall connected P c budget w in
       _≡_ {A = Called} (record { answer = r .answer; checkpoint = r .checkpoint; workspace = q .workspace }) q
   unfolding searchCall advance
-  same-call v w = go (checkpointAnswer P c) (leb wordsNeeded (length v)) (leb wordsNeeded (length w)) (countFits c budget)
+  same-call v w = go (checkpointAnswer connected P c) (leb wordsNeeded (length v)) (leb wordsNeeded (length w)) (countFits c budget)
     where
       Same : Called → Called → Type 0
       Same r q = _≡_ {A = Called} (record { answer = r .answer; checkpoint = r .checkpoint; workspace = q .workspace }) q
@@ -98,10 +98,10 @@ module _ (P : Problem) (c : Checkpoint) (budget : ℕ) where
       go (refusedAt n at) t s u e = refl
 
   -- A call over other words than those lent finds what the call over the lent ones does, where both have the words needed or both lack them.
-  pub found-apart : (r : Searched) (later own : List ℕ) → calledOf r later ≡ searchCall P c budget own
+  pub found-apart : (r : Searched) (later own : List ℕ) → calledOf r later ≡ searchCall connected P c budget own
       → (words : ℕ) → leb wordsNeeded (length own) ≡ leb wordsNeeded words
-      → (workspace : List ℕ) → length workspace ≡ words → FoundBy r (searchCall P c budget workspace)
+      → (workspace : List ℕ) → length workspace ≡ words → FoundBy r (searchCall connected P c budget workspace)
   found-apart r later own called words test workspace count =
-      let q = searchCall P c budget workspace in
+      let q = searchCall connected P c budget workspace in
       ap (λ (x : Called). record { answer = x .answer; checkpoint = x .checkpoint; workspace = q .workspace }) called
       ∙ same-call own workspace (test ∙ ap (leb wordsNeeded) (sym count))

@@ -1,5 +1,5 @@
--- The reply to a reading out of checkpoint bytes: its state, steps and ceiling, and the mapping that it holds (01, "Bookmark and calls").
-use mathlib.Core.Bool.{cond}
+-- The reply to a reading out of checkpoint bytes: its state, steps and ceiling, and the mapping that it holds (01, "Bookmark and calls"; 02, U1 and U7).
+use mathlib.Core.Bool.{Bool, cond}
 use mathlib.Core.List.{List}
 use Prim.Native.Nat.{ℕ}
 use lib.Dec.{leb}
@@ -34,16 +34,16 @@ abbrev pub heldIn : Problem → Checkpoint → List ℕ
 heldIn P c = take (cond (c .holds) (P .old .order) 0) (c .incumbent)
 
 -- state, steps, and what is held, where it fits into the lent mapping; the ceiling is that of a call that makes no visit
-unfoldable pub readCheckpoint : Problem → Checkpoint → List ℕ → ReadOut
-readCheckpoint P c mapping =
+unfoldable pub readCheckpoint : Bool → Problem → Checkpoint → List ℕ → ReadOut
+readCheckpoint connected P c mapping =
     let held = heldIn P c in
     cond (leb (length held) (length mapping))
     (readOut (reply 0 (stateByte (c .finished) (c .holds))) (c .steps) (size held)
-    (valueOf (searchCall P c 0 (replicate wordsNeeded 0) .answer)) (overwrite held mapping))
+    (valueOf (searchCall connected P c 0 (replicate wordsNeeded 0) .answer)) (overwrite held mapping))
     (notReadOut mapping tooShort)
 
-abbrev pub readLoaded : Problem → Loading → List ℕ → ReadOut
-readLoaded P l mapping = whenPassed (l .answer) (readCheckpoint P (l .checkpoint) mapping) (λ (refusal : Answer). notReadOut mapping (replyOf refusal))
+abbrev pub readLoaded : Bool → Problem → Loading → List ℕ → ReadOut
+readLoaded connected P l mapping = whenPassed (l .answer) (readCheckpoint connected P (l .checkpoint) mapping) (λ (refusal : Answer). notReadOut mapping (replyOf refusal))
 
-unfoldable pub readBytes : Problem → List ℕ → List ℕ → ReadOut
-readBytes P bytes mapping = readLoaded P (loading P bytes) mapping
+unfoldable pub readBytes : Bool → Problem → List ℕ → List ℕ → ReadOut
+readBytes connected P bytes mapping = readLoaded connected P (loading connected P bytes) mapping

@@ -1,4 +1,5 @@
--- The reply to a search call from checkpoint bytes to checkpoint bytes (01, "Bookmark and calls").
+-- The reply to a search call from checkpoint bytes to checkpoint bytes (01, "Bookmark and calls"; 02, U1 and U7).
+use mathlib.Core.Bool.{Bool}
 use mathlib.Core.List.{List}
 use Prim.Native.Nat.{ℕ}
 use Rattle.answers.specs.Answer.{Answer, whenPassed, whenAccepted}
@@ -25,19 +26,19 @@ abbrev pub notResumed : List ℕ → List ℕ → Answer → Resumed
 notResumed workspace next refusal = resumed (replyOf refusal) 0 workspace next
 
 -- a search call on the lent workspace, then its checkpoint saved; where either is refused, 13 for the bytes included, both buffers are as they were
-abbrev pub saveOn : Problem → Called → List ℕ → List ℕ → Resumed
-saveOn P r workspace next =
-    let w = saving P (r .checkpoint) next in
+abbrev pub saveOn : Bool → Problem → Called → List ℕ → List ℕ → Resumed
+saveOn connected P r workspace next =
+    let w = saving connected P (r .checkpoint) next in
     let refusal = notResumed workspace next in
     whenAccepted (r .answer) (λ ceiling.
     whenAccepted (w .answer) (λ count. resumed (reply 0 count) ceiling (r .workspace) (w .buffer)) refusal) refusal
 
-unfoldable pub searchFrom : Problem → Checkpoint → ℕ → List ℕ → List ℕ → Resumed
-searchFrom P c budget workspace next = saveOn P (searchCall P c budget workspace) workspace next
+unfoldable pub searchFrom : Bool → Problem → Checkpoint → ℕ → List ℕ → List ℕ → Resumed
+searchFrom connected P c budget workspace next = saveOn connected P (searchCall connected P c budget workspace) workspace next
 
-abbrev pub loadOn : Problem → Loading → ℕ → List ℕ → List ℕ → Resumed
-loadOn P l budget workspace next =
-    whenPassed (l .answer) (searchFrom P (l .checkpoint) budget workspace next) (notResumed workspace next)
+abbrev pub loadOn : Bool → Problem → Loading → ℕ → List ℕ → List ℕ → Resumed
+loadOn connected P l budget workspace next =
+    whenPassed (l .answer) (searchFrom connected P (l .checkpoint) budget workspace next) (notResumed workspace next)
 
-unfoldable pub resumeFrom : Problem → List ℕ → ℕ → List ℕ → List ℕ → Resumed
-resumeFrom P bytes budget workspace next = loadOn P (loading P bytes) budget workspace next
+unfoldable pub resumeFrom : Bool → Problem → List ℕ → ℕ → List ℕ → List ℕ → Resumed
+resumeFrom connected P bytes budget workspace next = loadOn connected P (loading connected P bytes) budget workspace next

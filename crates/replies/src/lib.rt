@@ -149,13 +149,14 @@ fn search_and_save<'a>(
     labels: Labels<'a>,
     edges: Edges<'a>,
     substitutes: &[u8],
+    connected: bool,
     checkpoint: Checkpoint,
     budget: u64,
     workspace: &mut [u64],
     next: &mut [u8],
 ) -> ResumeReply
     ensures { λ r. ⌜ resumed (r .reply) (r .ceiling) (now (workspace .exit)) (now (next .exit))
-        ≡ searchFrom (lent orders (labels .entry) (edges .entry) (now (substitutes .entry))) checkpoint budget
+        ≡ searchFrom connected (lent orders (labels .entry) (edges .entry) (now (substitutes .entry))) checkpoint budget
         (now (workspace .entry)) (now (next .entry)) ⌝ }
 {
     let lent = workspace.len();
@@ -164,6 +165,7 @@ fn search_and_save<'a>(
         labels,
         edges,
         substitutes,
+        connected,
         checkpoint,
         budget,
         lent,
@@ -177,6 +179,7 @@ fn search_and_save<'a>(
                 labels,
                 edges,
                 substitutes,
+                connected,
                 advanced,
                 next,
             );
@@ -210,16 +213,24 @@ pub fn resume<'a>(
     labels: Labels<'a>,
     edges: Edges<'a>,
     substitutes: &[u8],
+    connected: bool,
     bytes: &[u8],
     budget: u64,
     workspace: &mut [u64],
     next: &mut [u8],
 ) -> ResumeReply
     ensures { λ r. ⌜ resumed (r .reply) (r .ceiling) (now (workspace .exit)) (now (next .exit))
-        ≡ resumeFrom (lent orders (labels .entry) (edges .entry) (now (substitutes .entry))) (now (bytes .entry)) budget
+        ≡ resumeFrom connected (lent orders (labels .entry) (edges .entry) (now (substitutes .entry))) (now (bytes .entry)) budget
         (now (workspace .entry)) (now (next .entry)) ⌝ }
 {
-    let loaded = checkpoint_loader::load_checkpoint(orders, labels, edges, substitutes, bytes);
+    let loaded = checkpoint_loader::load_checkpoint(
+        orders,
+        labels,
+        edges,
+        substitutes,
+        connected,
+        bytes,
+    );
     let answer = loaded.answer;
     let checkpoint = loaded.checkpoint;
     match answer {
@@ -228,6 +239,7 @@ pub fn resume<'a>(
             labels,
             edges,
             substitutes,
+            connected,
             checkpoint,
             budget,
             workspace,
@@ -246,12 +258,13 @@ fn read_checkpoint<'a>(
     labels: Labels<'a>,
     edges: Edges<'a>,
     substitutes: &[u8],
+    connected: bool,
     checkpoint: Checkpoint,
     mapping: &mut [u8],
 ) -> ReadReply
     requires { ⌜ getD orders 0 0 ≤ 64 ⌝ }
     ensures { λ r. ⌜ readOut (r .reply) (r .steps) (r .size) (r .ceiling) (now (mapping .exit))
-        ≡ readCheckpoint (lent orders (labels .entry) (edges .entry) (now (substitutes .entry))) checkpoint (now (mapping .entry)) ⌝ }
+        ≡ readCheckpoint connected (lent orders (labels .entry) (edges .entry) (now (substitutes .entry))) checkpoint (now (mapping .entry)) ⌝ }
 {
     let entries = held::entries_held(checkpoint.holds, orders[0]);
     if mapping.len() < entries {
@@ -271,6 +284,7 @@ fn read_checkpoint<'a>(
         labels,
         edges,
         substitutes,
+        connected,
         checkpoint,
         0,
         &mut workspace,
@@ -296,13 +310,21 @@ pub fn read_out<'a>(
     labels: Labels<'a>,
     edges: Edges<'a>,
     substitutes: &[u8],
+    connected: bool,
     bytes: &[u8],
     mapping: &mut [u8],
 ) -> ReadReply
     ensures { λ r. ⌜ readOut (r .reply) (r .steps) (r .size) (r .ceiling) (now (mapping .exit))
-        ≡ readBytes (lent orders (labels .entry) (edges .entry) (now (substitutes .entry))) (now (bytes .entry)) (now (mapping .entry)) ⌝ }
+        ≡ readBytes connected (lent orders (labels .entry) (edges .entry) (now (substitutes .entry))) (now (bytes .entry)) (now (mapping .entry)) ⌝ }
 {
-    let loaded = checkpoint_loader::load_checkpoint(orders, labels, edges, substitutes, bytes);
+    let loaded = checkpoint_loader::load_checkpoint(
+        orders,
+        labels,
+        edges,
+        substitutes,
+        connected,
+        bytes,
+    );
     let answer = loaded.answer;
     let checkpoint = loaded.checkpoint;
     match answer {
@@ -311,6 +333,7 @@ pub fn read_out<'a>(
             labels,
             edges,
             substitutes,
+            connected,
             checkpoint,
             mapping,
         ),

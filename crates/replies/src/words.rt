@@ -20,12 +20,13 @@ pub fn search_apart<'a>(
     labels: Labels<'a>,
     edges: Edges<'a>,
     substitutes: &[u8],
+    connected: bool,
     checkpoint: Checkpoint,
     budget: u64,
     words: usize,
 ) -> Searched
     ensures { λ r. ⌜ ((workspace : List ℕ) → length workspace ≡ words
-        → FoundBy r (searchCall (lent orders (labels .entry) (edges .entry) (now (substitutes .entry))) checkpoint budget workspace)) ⌝ }
+        → FoundBy r (searchCall connected (lent orders (labels .entry) (edges .entry) (now (substitutes .entry))) checkpoint budget workspace)) ⌝ }
 {
     let mut own = [0u64; WORDS];
     let used = if words < WORDS { words } else { WORDS };
@@ -34,6 +35,7 @@ pub fn search_apart<'a>(
         labels,
         edges,
         substitutes,
+        connected,
         checkpoint,
         budget,
         &mut own[..used],

@@ -1,4 +1,4 @@
-// The search call on a checkpoint that the caller lends: thin functions over `search::search`, which takes the checkpoint by value.
+// The call of either search on a checkpoint that the caller lends: thin functions over `search::search`, which takes the checkpoint by value.
 
 use checkpoint::Checkpoint;
 use problem::Edges;
@@ -19,18 +19,20 @@ pub fn resume<'a>(
     labels: Labels<'a>,
     edges: Edges<'a>,
     substitutes: &[u8],
+    connected: bool,
     checkpoint: &mut Checkpoint,
     budget: u64,
     workspace: &mut [u64],
 ) -> SearchAnswer
     ensures { λ r. ⌜ lentCall r (now (checkpoint .exit)) (now (workspace .exit))
-        ≡ searchCall (lent orders (labels .entry) (edges .entry) (now (substitutes .entry))) (now (checkpoint .entry)) budget (now (workspace .entry)) ⌝ }
+        ≡ searchCall connected (lent orders (labels .entry) (edges .entry) (now (substitutes .entry))) (now (checkpoint .entry)) budget (now (workspace .entry)) ⌝ }
 {
     let called = search::search(
         orders,
         labels,
         edges,
         substitutes,
+        connected,
         *checkpoint,
         budget,
         workspace,
@@ -45,12 +47,13 @@ pub fn start<'a>(
     labels: Labels<'a>,
     edges: Edges<'a>,
     substitutes: &[u8],
+    connected: bool,
     minimum: u8,
     budget: u64,
     workspace: &mut [u64],
 ) -> Searched
     ensures { λ r. ⌜ calledOf r (now (workspace .exit))
-        ≡ searchCall (lent orders (labels .entry) (edges .entry) (now (substitutes .entry))) (freshCheckpoint minimum) budget (now (workspace .entry)) ⌝ }
+        ≡ searchCall connected (lent orders (labels .entry) (edges .entry) (now (substitutes .entry))) (freshCheckpoint minimum) budget (now (workspace .entry)) ⌝ }
 {
     let mut checkpoint = Checkpoint::fresh(minimum);
     let answer = resume(
@@ -58,6 +61,7 @@ pub fn start<'a>(
         labels,
         edges,
         substitutes,
+        connected,
         &mut checkpoint,
         budget,
         workspace,

@@ -1,5 +1,6 @@
 -- An accepted call: the words of the checkpoint's path are rebuilt, the visits are made, and the ceiling there is returned.
 use mathlib.Core.Path.{_≡_, refl, sym, ap, ap₂, _∙_}
+use mathlib.Core.Bool.{Bool}
 use mathlib.Core.Logic.{_⊎_, ⊎-elim}
 use mathlib.Core.List.{List, [], _++_}
 use Prim.Native.Nat.{ℕ, _+_, _≤_, _<_}
@@ -32,17 +33,17 @@ all-cleared : (m : ℕ) (zeros before after cleared : List ℕ) → length befor
 all-cleared m zeros before after cleared few few′ e = e ∙ ap (_++_ zeros) (drop-of-length-le before few ∙ sym (drop-of-length-le after few′))
 
 -- what an accepted call starts from: a sound problem, and a checkpoint in shape, with its arrays of 64 bytes
-pub record Accepted (P : Problem) (c : Checkpoint) : Type 0 where
+pub record Accepted (connected : Bool) (P : Problem) (c : Checkpoint) : Type 0 where
   pub sound : SoundProblem P
-  pub shape : InShape P c
+  pub shape : InShape connected P c
   pub path-long : length (c .path) ≡ 64
   pub incumbent-long : length (c .incumbent) ≡ 64
 
-module _ {P : Problem} {c : Checkpoint} (call : Accepted P c) where
+module _ {connected : Bool} {P : Problem} {c : Checkpoint} (call : Accepted connected P c) where
   -- The path of a checkpoint in shape is reached.
   pub shape-reached : Reached (rulesOf P) (take (c .depth) (c .path))
   unfolding stateOf
-  shape-reached = state-in-shape P (call .sound) c (call .path-long) (call .shape) .reached
+  shape-reached = state-in-shape connected P (call .sound) c (call .path-long) (call .shape) .reached
 
   -- The problem, with the masks filled in, is what the code is lent.
   pub call-setting : {masks : List ℕ} → Masks (graph (P .new .order) [] (P .new .edges)) masks → Setting P (P .old .order) (P .old .edges) masks
@@ -70,7 +71,7 @@ module _ {P : Problem} {c : Checkpoint} (call : Accepted P c) where
   pub call-starts : {n : ℕ} {edges masks ws : List ℕ} {pairs number bound : ℕ} → Setting P n edges masks → 4160 ≤ length ws
       → pairs ≡ size (take (c .depth) (c .path)) → Words P (c .path) (c .depth) ws → number ≡ cutoff (c .minimum) (stateOf (P .old .order) c .incumbent)
       → ((pairs < 64) × (bound ≡ pairs + openRows (c .depth) pairs ws)) ⊎ ((64 ≤ pairs) × (bound ≡ pairs))
-      → Starts P c (record { checkpoint = c; pairs = pairs; cutoff = number; bound = bound }) ws
+      → Starts connected P c (record { checkpoint = c; pairs = pairs; cutoff = number; bound = bound }) ws
   call-starts {ws = ws} {pairs = pairs} {bound = bound} setting room counted words number-is bound-is = record {
     checkpoint-is = refl;
     ready = record {
@@ -92,11 +93,11 @@ module _ {P : Problem} {c : Checkpoint} (call : Accepted P c) where
 
   -- The checkpoint that the visits leave, the ceiling there and the cleared workspace are what an accepted call gives.
   pub call-arrives : {edges masks ws ws′ : List ℕ} {w end : Walk} (budget top : ℕ) (lent before : List ℕ) {cleared : List ℕ}
-      → Setting P (P .old .order) edges masks → w .checkpoint ≡ c → Ready P w ws
-      → Arrives P (w .checkpoint .minimum) (visits (searchOf P) (w .checkpoint .minimum) budget (stateOf (P .old .order) (w .checkpoint))) end ws′
+      → Setting P (P .old .order) edges masks → w .checkpoint ≡ c → Ready connected P w ws
+      → Arrives connected P (w .checkpoint .minimum) (visits (searchOf connected P) (w .checkpoint .minimum) budget (stateOf (P .old .order) (w .checkpoint))) end ws′
       → top ≡ ceiling (rulesOf P) (end .checkpoint .minimum) (stateOf (P .old .order) (end .checkpoint))
       → length lent ≡ 4160 → length before ≡ 4160 → cleared ≡ replicate 4160 0 ++ drop 4160 before
-      → _≡_ {A = Called} (record { answer = accepted top; checkpoint = end .checkpoint; workspace = cleared }) (advance P c budget lent)
+      → _≡_ {A = Called} (record { answer = accepted top; checkpoint = end .checkpoint; workspace = cleared }) (advance connected P c budget lent)
   unfolding advance
   call-arrives {w = w} {end = end} budget top lent before {cleared} setting begun ready there top-is whole kept clear = rw (← begun) (λ i. record {
     answer = accepted (answer-is i);
@@ -105,5 +106,5 @@ module _ {P : Problem} {c : Checkpoint} (call : Accepted P c) where
   })
     where
       answer-is : top ≡ ceiling (rulesOf P) (w .checkpoint .minimum)
-          (visits (searchOf P) (w .checkpoint .minimum) budget (stateOf (P .old .order) (w .checkpoint)))
+          (visits (searchOf connected P) (w .checkpoint .minimum) budget (stateOf (P .old .order) (w .checkpoint)))
       answer-is = top-is ∙ ap₂ (ceiling (rulesOf P)) (arrived-minimum there) (arrived-state budget setting ready there)

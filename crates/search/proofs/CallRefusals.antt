@@ -1,6 +1,6 @@
 -- A search call by its tests in their order: the refusals, and the accepted call on the words that it needs.
 use mathlib.Core.Path.{_≡_, ap, _∙_}
-use mathlib.Core.Bool.{true, false}
+use mathlib.Core.Bool.{Bool, true, false}
 use mathlib.Core.List.{List, _++_, append-nil}
 use Prim.Native.Nat.{ℕ, _≤_, _<_}
 use native.Mathlib.Omega.{arith}
@@ -18,34 +18,34 @@ front-put-back m zeros l =
     ap (λ (t : List ℕ). (zeros ++ t) ++ drop m l) (drop-of-length-le (take m l) {i = m} (omega (arith, length-take m l)))
     ∙ ap (λ (t : List ℕ). t ++ drop m l) (append-nil zeros)
 
-module _ (P : Problem) (c : Checkpoint) (budget : ℕ) (workspace : List ℕ) where
+module _ (connected : Bool) (P : Problem) (c : Checkpoint) (budget : ℕ) (workspace : List ℕ) where
   -- Unsound graphs, and then a checkpoint out of shape, are refused first.
-  pub call-refused : (number : ℕ) → checkpointAnswer P c ≡ refused number → refuse c workspace number ≡ searchCall P c budget workspace
+  pub call-refused : (number : ℕ) → checkpointAnswer connected P c ≡ refused number → refuse c workspace number ≡ searchCall connected P c budget workspace
   unfolding searchCall
   call-refused number e = rw e
 
-  module _ (fits : checkpointAnswer P c ≡ passed) where
+  module _ (fits : checkpointAnswer connected P c ≡ passed) where
     -- Then too few words.
-    pub call-words : length workspace < wordsNeeded → refuse c workspace 15 ≡ searchCall P c budget workspace
+    pub call-words : length workspace < wordsNeeded → refuse c workspace 15 ≡ searchCall connected P c budget workspace
     unfolding searchCall
     call-words few = rw (fits, lt-leb wordsNeeded (length workspace) few)
 
     module _ (room : wordsNeeded ≤ length workspace) where
       -- Then steps that would not count in 64 bits.
-      pub call-count : countFits c budget ≡ false → refuse c workspace 16 ≡ searchCall P c budget workspace
+      pub call-count : countFits c budget ≡ false → refuse c workspace 16 ≡ searchCall connected P c budget workspace
       unfolding searchCall
       call-count off = rw (fits, le-leb wordsNeeded (length workspace) room, off)
 
       -- What is not refused is accepted.
-      pub call-accepted : countFits c budget ≡ true → advance P c budget workspace ≡ searchCall P c budget workspace
+      pub call-accepted : countFits c budget ≡ true → advance connected P c budget workspace ≡ searchCall connected P c budget workspace
       unfolding searchCall
       call-accepted counts = rw (fits, le-leb wordsNeeded (length workspace) room, counts)
 
   -- An accepted call on the words that it needs is one on all of them, with the later ones put back.
-  pub front-advanced : (r : Called) → r ≡ advance P c budget (take wordsNeeded workspace)
+  pub front-advanced : (r : Called) → r ≡ advance connected P c budget (take wordsNeeded workspace)
       → _≡_ {A = Called}
       (record { answer = r .answer; checkpoint = r .checkpoint; workspace = r .workspace ++ drop wordsNeeded workspace })
-      (advance P c budget workspace)
+      (advance connected P c budget workspace)
   unfolding advance
   front-advanced r e = λ i. record {
     answer = e i .answer;

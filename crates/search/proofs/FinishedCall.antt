@@ -35,19 +35,19 @@ past-tests : (a : Answer) (enough finished fits : Bool) (step full few : Called)
     → a ≡ passed → enough ≡ true → finished ≡ true → onPassed a (cond enough (cond (finished || fits) step full) few) refusal ≡ step
 past-tests a enough finished fits step full few refusal p r e = rw (p, r, e)
 
-module _ (P : Problem) (sound : SoundProblem P) (c : Checkpoint) (path-long : length (c .path) ≡ 64) (incumbent-long : length (c .incumbent) ≡ 64)
-    (shape : InShape P c) where
+module _ (connected : Bool) (P : Problem) (sound : SoundProblem P) (c : Checkpoint) (path-long : length (c .path) ≡ 64) (incumbent-long : length (c .incumbent) ≡ 64)
+    (shape : InShape connected P c) where
   back : checkpointOf (c .minimum) (stateOf (P .old .order) c) ≡ c
-  back = checkpoint-of-state P c (omega (arith, sound .old-sound .order-max)) path-long incumbent-long shape
+  back = checkpoint-of-state connected P c (omega (arith, sound .old-sound .order-max)) path-long incumbent-long shape
 
   -- Budget 0 makes no visit: the checkpoint stays.
-  pub no-visit : (workspace : List ℕ) → advance P c 0 workspace .checkpoint ≡ c
+  pub no-visit : (workspace : List ℕ) → advance connected P c 0 workspace .checkpoint ≡ c
   unfolding advance visits
   no-visit workspace = back
 
   -- A finished search accepts any budget, answers with its cutoff and leaves its checkpoint as it is.
   pub finished-call : c .finished ≡ true → (budget : ℕ) (workspace : List ℕ) → wordsNeeded ≤ length workspace
-      → searchCall P c budget workspace
+      → searchCall connected P c budget workspace
       ≡ record {
         answer = accepted (cutoff (c .minimum) (incumbentIn P c));
         checkpoint = c;
@@ -55,8 +55,8 @@ module _ (P : Problem) (sound : SoundProblem P) (c : Checkpoint) (path-long : le
       }
   unfolding searchCall advance stateOf
   finished-call end budget workspace enough =
-      past-tests _ _ (c .finished) _ _ _ _ _ (shape-passes P c sound shape) (le-leb _ _ enough) end
-      ∙ ap (arrive (c .minimum) (rulesOf P) workspace) (visits-finished (searchOf P) (c .minimum) budget (stateOf (P .old .order) c) end)
+      past-tests _ _ (c .finished) _ _ _ _ _ (shape-passes connected P c sound shape) (le-leb _ _ enough) end
+      ∙ ap (arrive (c .minimum) (rulesOf P) workspace) (visits-finished (searchOf connected P) (c .minimum) budget (stateOf (P .old .order) c) end)
       ∙ (λ i. record {
         answer = accepted (ceiling-finished (rulesOf P) (c .minimum) (stateOf (P .old .order) c) end i);
         checkpoint = back i;

@@ -27,6 +27,7 @@ pub mod StateCeiling
 pub mod VisitTurn
 pub mod StoredRow
 pub mod ThirdProperty
+pub mod TrailRows
 pub mod Trails
 pub mod WalkCall
 pub mod WordBounds

@@ -30,42 +30,42 @@ visits-finished S minimum s k j end =
     (λ j h same. ap (visit S minimum) same ∙ visit-finished S minimum (visits S minimum k s) end) j
 
 -- What a walk that made so many visits holds stands for the state after them.
-pub arrived-state : {P : Problem} {n : ℕ} {edges masks ws ws′ : List ℕ} {w w′ : Walk} (k : ℕ) → Setting P n edges masks → Ready P w ws
-    → Arrives P (w .checkpoint .minimum) (visits (searchOf P) (w .checkpoint .minimum) k (stateOf (P .old .order) (w .checkpoint))) w′ ws′
-    → stateOf (P .old .order) (w′ .checkpoint) ≡ visits (searchOf P) (w .checkpoint .minimum) k (stateOf (P .old .order) (w .checkpoint))
-arrived-state {P} {w = w} k setting ready there =
+pub arrived-state : {connected : Bool} {P : Problem} {n : ℕ} {edges masks ws ws′ : List ℕ} {w w′ : Walk} (k : ℕ) → Setting P n edges masks → Ready connected P w ws
+    → Arrives connected P (w .checkpoint .minimum) (visits (searchOf connected P) (w .checkpoint .minimum) k (stateOf (P .old .order) (w .checkpoint))) w′ ws′
+    → stateOf (P .old .order) (w′ .checkpoint) ≡ visits (searchOf connected P) (w .checkpoint .minimum) k (stateOf (P .old .order) (w .checkpoint))
+arrived-state {connected} {P} {w = w} k setting ready there =
     let c = w .checkpoint in
     ap (stateOf (P .old .order)) (there .checkpoint-is)
     ∙ state-of-checkpoint (P .old .order) (c .minimum) _
-    (λ h e. visits-shape (searchOf P) (c .minimum) k (stateOf (P .old .order) c)
-    (state-in-shape P (setting .sound) c (ready .node .path-length) (ready .shape)) .incumbent-shape h e .full)
+    (λ h e. visits-shape (searchOf connected P) (c .minimum) k (stateOf (P .old .order) c)
+    (state-in-shape connected P (setting .sound) c (ready .node .path-length) (ready .shape)) .incumbent-shape h e .full)
 
 -- The walk's visits keep the minimum.
-pub arrived-minimum : {P : Problem} {minimum : ℕ} {s : State} {w : Walk} {ws : List ℕ} → Arrives P minimum s w ws → w .checkpoint .minimum ≡ minimum
+pub arrived-minimum : {connected : Bool} {P : Problem} {minimum : ℕ} {s : State} {w : Walk} {ws : List ℕ} → Arrives connected P minimum s w ws → w .checkpoint .minimum ≡ minimum
 unfolding checkpointOf
 arrived-minimum there = ap (λ (c : Checkpoint). c .minimum) (there .checkpoint-is)
 
 -- One visit is one step.
-pub visited-steps : {n : ℕ} {edges masks first ws ws′ : List ℕ} {w w′ : Walk} → w .checkpoint .finished ≡ false → Resumes n edges masks first w ws
-    → Visits n edges masks w ws w′ ws′ → w′ .checkpoint .steps ≡ w .checkpoint .steps + 1
+pub visited-steps : {connected : Bool} {n : ℕ} {edges masks first ws ws′ : List ℕ} {w w′ : Walk} → w .checkpoint .finished ≡ false → Resumes connected n edges masks first w ws
+    → Visits connected n edges masks w ws w′ ws′ → w′ .checkpoint .steps ≡ w .checkpoint .steps + 1
 unfolding checkpointOf stateOf
-visited-steps {w = w} busy resumes visited =
+visited-steps {connected} {w = w} busy resumes visited =
     ap (λ (c : Checkpoint). c .steps) (visited (resumes .problem) (resumes .setting) (resumes .ready) .checkpoint-is)
-    ∙ visit-steps (searchOf (resumes .problem)) (w .checkpoint .minimum) (stateOf (resumes .problem .old .order) (w .checkpoint)) busy
+    ∙ visit-steps (searchOf connected (resumes .problem)) (w .checkpoint .minimum) (stateOf (resumes .problem .old .order) (w .checkpoint)) busy
 
 -- The invariant: as many visits are made as steps, whatever the problem, and the walk is ready for another.
-pub record RanTo (budget n : ℕ) (edges masks first ws : List ℕ) (w : Walk) (ws′ : List ℕ) (w′ : Walk) : Type 0 where
+pub record RanTo (connected : Bool) (budget n : ℕ) (edges masks first ws : List ℕ) (w : Walk) (ws′ : List ℕ) (w′ : Walk) : Type 0 where
   pub forward : w .checkpoint .steps ≤ w′ .checkpoint .steps
   pub within : w′ .checkpoint .steps ≤ w .checkpoint .steps + budget
   pub kept-length : length ws′ ≡ length ws
-  pub resumes : Resumes n edges masks first w′ ws′
-  pub arrives : (P : Problem) → Setting P n edges masks → Ready P w ws
-      → Arrives P (w .checkpoint .minimum)
-      (visits (searchOf P) (w .checkpoint .minimum) (w′ .checkpoint .steps - w .checkpoint .steps) (stateOf (P .old .order) (w .checkpoint))) w′ ws′
+  pub resumes : Resumes connected n edges masks first w′ ws′
+  pub arrives : (P : Problem) → Setting P n edges masks → Ready connected P w ws
+      → Arrives connected P (w .checkpoint .minimum)
+      (visits (searchOf connected P) (w .checkpoint .minimum) (w′ .checkpoint .steps - w .checkpoint .steps) (stateOf (P .old .order) (w .checkpoint))) w′ ws′
 
-module _ {budget n : ℕ} {edges masks first ws : List ℕ} {w : Walk} where
+module _ {connected : Bool} {budget n : ℕ} {edges masks first ws : List ℕ} {w : Walk} where
   -- At first no visit is made.
-  pub ran-none : Resumes n edges masks first w ws → RanTo budget n edges masks first ws w ws w
+  pub ran-none : Resumes connected n edges masks first w ws → RanTo connected budget n edges masks first ws w ws w
   unfolding visits
   ran-none resumes = record {
     forward = le-refl _;
@@ -74,15 +74,15 @@ module _ {budget n : ℕ} {edges masks first ws : List ℕ} {w : Walk} where
     resumes = resumes;
     arrives = λ P setting ready.
         let none : w .checkpoint .steps - w .checkpoint .steps ≡ 0 = omega arith in
-        let own = checkpoint-of-state P (w .checkpoint) (setting .sound .old-sound .order-max) (ready .node .path-length) (ready .incumbent-length)
+        let own = checkpoint-of-state connected P (w .checkpoint) (setting .sound .old-sound .order-max) (ready .node .path-length) (ready .incumbent-length)
         (ready .shape) in
         rw none (record { checkpoint-is = sym own; ready = ready });
   }
 
-  module _ {ws′ : List ℕ} {w′ : Walk} (ran : RanTo budget n edges masks first ws w ws′ w′) where
+  module _ {ws′ : List ℕ} {w′ : Walk} (ran : RanTo connected budget n edges masks first ws w ws′ w′) where
     -- One visit more.
     pub ran-more : {ws″ : List ℕ} {w″ : Walk} → w′ .checkpoint .steps < w .checkpoint .steps + budget → w′ .checkpoint .finished ≡ false
-        → length ws″ ≡ length ws′ → Visits n edges masks w′ ws′ w″ ws″ → RanTo budget n edges masks first ws w ws″ w″
+        → length ws″ ≡ length ws′ → Visits connected n edges masks w′ ws′ w″ ws″ → RanTo connected budget n edges masks first ws w ws″ w″
     unfolding visits
     ran-more {ws″} {w″} h busy same visited =
         let one = visited-steps busy (ran .resumes) visited in
@@ -103,25 +103,25 @@ module _ {budget n : ℕ} {edges masks first ws : List ℕ} {w : Walk} where
               let more : w″ .checkpoint .steps - w .checkpoint .steps ≡ suc made = omega (arith, ran .forward) in
               rw more (record {
                 checkpoint-is = there .checkpoint-is
-                    ∙ ap₂ (λ (m : ℕ) (s : State). checkpointOf m (visit (searchOf P) m s)) (arrived-minimum here) (arrived-state made setting ready here);
+                    ∙ ap₂ (λ (m : ℕ) (s : State). checkpointOf m (visit (searchOf connected P) m s)) (arrived-minimum here) (arrived-state made setting ready here);
                 ready = there .ready;
               });
         }
 
     -- A finished walk has made all visits of the budget.
-    ran-finished : w′ .checkpoint .finished ≡ true → (P : Problem) → Setting P n edges masks → Ready P w ws
-        → Arrives P (w .checkpoint .minimum) (visits (searchOf P) (w .checkpoint .minimum) budget (stateOf (P .old .order) (w .checkpoint))) w′ ws′
+    ran-finished : w′ .checkpoint .finished ≡ true → (P : Problem) → Setting P n edges masks → Ready connected P w ws
+        → Arrives connected P (w .checkpoint .minimum) (visits (searchOf connected P) (w .checkpoint .minimum) budget (stateOf (P .old .order) (w .checkpoint))) w′ ws′
     unfolding checkpointOf
     ran-finished end P setting ready =
         let here = ran .arrives P setting ready in
-        let stays = visits-finished (searchOf P) (w .checkpoint .minimum) (stateOf (P .old .order) (w .checkpoint))
+        let stays = visits-finished (searchOf connected P) (w .checkpoint .minimum) (stateOf (P .old .order) (w .checkpoint))
         (w′ .checkpoint .steps - w .checkpoint .steps) budget (ap (λ (c : Checkpoint). c .finished) (sym (here .checkpoint-is)) ∙ end)
         (omega (arith, ran .within, ran .forward)) in
         record { checkpoint-is = rw stays (here .checkpoint-is); ready = here .ready }
 
     -- At the end all visits are made.
-    ran-all : w .checkpoint .steps + budget ≤ w′ .checkpoint .steps → (P : Problem) → Setting P n edges masks → Ready P w ws
-        → Arrives P (w .checkpoint .minimum) (visits (searchOf P) (w .checkpoint .minimum) budget (stateOf (P .old .order) (w .checkpoint))) w′ ws′
+    ran-all : w .checkpoint .steps + budget ≤ w′ .checkpoint .steps → (P : Problem) → Setting P n edges masks → Ready connected P w ws
+        → Arrives connected P (w .checkpoint .minimum) (visits (searchOf connected P) (w .checkpoint .minimum) budget (stateOf (P .old .order) (w .checkpoint))) w′ ws′
     ran-all h P setting ready =
         let all : w′ .checkpoint .steps - w .checkpoint .steps ≡ budget = omega (arith, ran .within) in
         rw all at (ran .arrives P setting ready)
@@ -140,12 +140,12 @@ goes-on {w′ = w′} {last} ends h = go (w′ .checkpoint .finished) refl
     go false e = refl
 
 -- At the end, finished or not, all visits are made.
-pub ran-out : {budget n : ℕ} {edges masks first ws ws′ : List ℕ} {w w′ : Walk} {last : ℕ} → RanTo budget n edges masks first ws w ws′ w′
-    → EndsAt budget w w′ last → last ≤ w′ .checkpoint .steps → (P : Problem) → Setting P n edges masks → Ready P w ws
-    → Arrives P (w .checkpoint .minimum) (visits (searchOf P) (w .checkpoint .minimum) budget (stateOf (P .old .order) (w .checkpoint))) w′ ws′
-ran-out {budget} {n} {edges} {masks} {first} {ws} {ws′} {w} {w′} ran ends h P setting ready = go (w′ .checkpoint .finished) refl
+pub ran-out : {connected : Bool} {budget n : ℕ} {edges masks first ws ws′ : List ℕ} {w w′ : Walk} {last : ℕ} → RanTo connected budget n edges masks first ws w ws′ w′
+    → EndsAt budget w w′ last → last ≤ w′ .checkpoint .steps → (P : Problem) → Setting P n edges masks → Ready connected P w ws
+    → Arrives connected P (w .checkpoint .minimum) (visits (searchOf connected P) (w .checkpoint .minimum) budget (stateOf (P .old .order) (w .checkpoint))) w′ ws′
+ran-out {connected} {budget} {n} {edges} {masks} {first} {ws} {ws′} {w} {w′} ran ends h P setting ready = go (w′ .checkpoint .finished) refl
   where
     go : (b : Bool) → w′ .checkpoint .finished ≡ b
-        → Arrives P (w .checkpoint .minimum) (visits (searchOf P) (w .checkpoint .minimum) budget (stateOf (P .old .order) (w .checkpoint))) w′ ws′
+        → Arrives connected P (w .checkpoint .minimum) (visits (searchOf connected P) (w .checkpoint .minimum) budget (stateOf (P .old .order) (w .checkpoint))) w′ ws′
     go true e = ran-finished ran e P setting ready
     go false e = ran-all ran (omega (arith, ends .busy e .0)) P setting ready

@@ -1,6 +1,6 @@
 -- The ceiling of the state that a walk stands for, as the code takes its maximum: the cutoff, the node's own bound, and its later siblings.
 use mathlib.Core.Path.{_≡_, sym}
-use mathlib.Core.Bool.{true, false}
+use mathlib.Core.Bool.{Bool, true, false}
 use mathlib.Core.Logic.{_⊎_, ⊎-elim}
 use mathlib.Core.List.{List}
 use Prim.Native.Nat.{ℕ, _+_, _≤_, _<_, max}
@@ -16,7 +16,7 @@ use Rattle.search.specs.Walking.{Setting, Ready}
 use Rattle.search.proofs.ReadyWalk.{node-length}
 use Rattle.search.proofs.LaterTop.{laterTop}
 
-module _ {P : Problem} {n : ℕ} {edges masks ws : List ℕ} {w : Walk} (setting : Setting P n edges masks) (ready : Ready P w ws) where
+module _ {connected : Bool} {P : Problem} {n : ℕ} {edges masks ws : List ℕ} {w : Walk} (setting : Setting P n edges masks) (ready : Ready connected P w ws) where
   -- The ceiling of a finished walk is its cutoff.
   pub ceiling-finished : w .checkpoint .finished ≡ true
       → ceiling (rulesOf P) (w .checkpoint .minimum) (stateOf (P .old .order) (w .checkpoint)) ≡ w .cutoff

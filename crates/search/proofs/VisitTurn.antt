@@ -1,6 +1,8 @@
--- One visit by the code is one of the walk's: a node is left, or held and left, or its first child is next, and all is ready for another visit.
+-- One visit by the code is one of the walk's: a node is left, a last one held if it may be and left, or its first child is next, and all is ready for another
+-- visit.
 use mathlib.Core.Path.{_≡_, refl, sym, ap, _∙_}
-use mathlib.Core.Bool.{Bool, true, false, cond, true≢false}
+use mathlib.Core.Bool.{Bool, true, false, cond, not, _||_, true≢false}
+use mathlib.Core.Logic.{_⊎_, ⊎-elim}
 use mathlib.Core.List.{List, _∷_}
 use mathlib.Core.Option.{Option, none, some}
 use Prim.Native.Nat.{ℕ, _+_, _-_, _^_, _≤_, _<_}
@@ -8,8 +10,10 @@ use native.Mathlib.Omega.{arith}
 use lib.ListN.{length, getD, take}
 use borrow.Author.Tests.{lt-ltb, le-ltb, le-leb, lt-leb}
 use Rattle.problem.specs.Problem.{Problem, SoundProblem}
+use Rattle.connected.specs.Spreading.{mappedSet, connectedSet, Neighbours}
+use Rattle.connected.proofs.Spread.{connected-set-congr}
 use Rattle.search_tree.specs.Rules.{rulesOf}
-use Rattle.search_tree.specs.Search.{Search, searchOf}
+use Rattle.search_tree.specs.Search.{Search, admitsBy, admitsOf, searchOf}
 use Rattle.search_tree.specs.Node.{upperBound, children, laterSiblings}
 use Rattle.search_tree.specs.Walk.{State, cutoff, goOn, visit, visitPath}
 use Rattle.search_tree.proofs.Shape.{visit-shape}
@@ -46,8 +50,8 @@ module _ {P : Problem} {n : ℕ} {edges masks path ws : List ℕ} {depth pairs :
   }
 
 -- A walk that is ready for a visit is in bounds.
-pub ready-in-bounds : {P : Problem} {n : ℕ} {edges masks first ws : List ℕ} {w : Walk} → Setting P n edges masks → First edges first
-    → Ready P w ws → InBounds edges masks first (w .checkpoint .path) (w .checkpoint .depth) (w .pairs) ws
+pub ready-in-bounds : {connected : Bool} {P : Problem} {n : ℕ} {edges masks first ws : List ℕ} {w : Walk} → Setting P n edges masks → First edges first
+    → Ready connected P w ws → InBounds edges masks first (w .checkpoint .path) (w .checkpoint .depth) (w .pairs) ws
 ready-in-bounds setting first-are ready = node-in-bounds setting (ready .node) first-are
 
 -- a place as a state
@@ -85,11 +89,11 @@ abbrev heldBy : ℕ → Checkpoint → Option (List ℕ)
 heldBy n c = cond (c .holds) (some (take n (c .incumbent))) none
 
 -- an unfinished checkpoint's visit is of its node
-visit-node : (P : Problem) (n : ℕ) (c : Checkpoint) → c .finished ≡ false
-    → visit (searchOf P) (c .minimum) (stateOf n c)
-    ≡ visitPath (searchOf P) (c .minimum) (c .steps + 1) (take (c .depth) (c .path)) (heldBy n c)
+visit-node : (connected : Bool) (P : Problem) (n : ℕ) (c : Checkpoint) → c .finished ≡ false
+    → visit (searchOf connected P) (c .minimum) (stateOf n c)
+    ≡ visitPath (searchOf connected P) (c .minimum) (c .steps + 1) (take (c .depth) (c .path)) (heldBy n c)
 unfolding visit stateOf
-visit-node P n c busy = rw busy
+visit-node connected P n c busy = rw busy
 
 -- the checkpoint with one step more, at a place
 abbrev stepped : Checkpoint → Place → List ℕ → Bool → List ℕ → Checkpoint
@@ -121,18 +125,36 @@ down-state : (steps : ℕ) (held : Option (List ℕ)) (r : Place) (path′ : Lis
     → r .finished ≡ false → placeState steps held r path′ ≡ goOn steps held nodes
 down-state steps held r path′ first goes-on = rw (first, goes-on)
 
+-- The test by the neighbours that the code keeps is the test.
+pub admits-by-neighbours : (connected : Bool) {edges neighbours : List ℕ} → (connected ≡ true → Neighbours edges neighbours) → (l : List ℕ)
+    → (not connected || connectedSet (λ v. getD neighbours v 0) (mappedSet l)) ≡ admitsBy connected edges l
+admits-by-neighbours true known l = connected-set-congr _ _ (λ v h. known refl .word v h) (mappedSet l)
+admits-by-neighbours false known l = refl
+
+-- whether the walk's node may be held
+abbrev pub Admitted : Bool → List ℕ → Walk → Bool → Type 0
+Admitted connected edges w may = admitsBy connected edges (take (w .checkpoint .depth) (w .checkpoint .path)) ≡ may
+
+-- why a node is left and what is held stays: it is below the cutoff, or a last one that may not be held
+abbrev pub Leaves : Bool → ℕ → List ℕ → Walk → Type 0
+Leaves connected n edges w = (w .bound < w .cutoff) ⊎ ((w .cutoff ≤ w .bound) × (w .checkpoint .depth ≡ n) × Admitted connected edges w false)
+
 -- the bound of a place is made
 record Bound (P : Problem) (path : List ℕ) (r : Place) (cutoff : ℕ) (ws ws′ : List ℕ) (bound : ℕ) : Type 0 where
   same : length ws′ ≡ length ws
   bounded : Bounded P path (r .depth) cutoff ws′ bound
   small : bound < 2 ^ 64 - 1
 
-module _ {P : Problem} {n : ℕ} {edges masks ws : List ℕ} {w : Walk} (setting : Setting P n edges masks) (ready : Ready P w ws)
-    (busy : w .checkpoint .finished ≡ false) where
+module _ {connected : Bool} {P : Problem} {n : ℕ} {edges masks ws : List ℕ} {w : Walk} (setting : Setting P n edges masks)
+    (ready : Ready connected P w ws) (busy : w .checkpoint .finished ≡ false) where
   -- the walk's cutoff is the state's
   own-cutoff : cutoff (w .checkpoint .minimum) (heldBy (P .old .order) (w .checkpoint)) ≡ w .cutoff
   unfolding stateOf
   own-cutoff = sym (ready .cutoff-is)
+
+  -- whether the node may be held is read from the old edges
+  own-admits : {may : Bool} → Admitted connected edges w may → admitsOf connected P (take (w .checkpoint .depth) (w .checkpoint .path)) ≡ may
+  own-admits is = ap (λ (e : List ℕ). admitsBy connected e (take (w .checkpoint .depth) (w .checkpoint .path))) (setting .edges-is) ∙ is
 
   own-length : length (take (w .checkpoint .depth) (w .checkpoint .path)) ≡ w .checkpoint .depth
   own-length = node-length (setting .sound) (ready .node)
@@ -140,20 +162,20 @@ module _ {P : Problem} {n : ℕ} {edges masks ws : List ℕ} {w : Walk} (setting
   -- a checkpoint that stands for the next state, with unused bytes 0, is the next one
   arrives : {r : Place} {path′ incumbent′ ws′ : List ℕ} {holds′ : Bool} {cutoff′ bound′ : ℕ}
       → stateOf (P .old .order) (stepped (w .checkpoint) r path′ holds′ incumbent′)
-      ≡ visit (searchOf P) (w .checkpoint .minimum) (stateOf (P .old .order) (w .checkpoint))
+      ≡ visit (searchOf connected P) (w .checkpoint .minimum) (stateOf (P .old .order) (w .checkpoint))
       → AtNode P path′ (r .depth) (r .pairs) ws → RestZero path′ (r .depth) → length incumbent′ ≡ 64
       → ((i : ℕ) → P .old .order ≤ i → i < 64 → getD incumbent′ i 0 ≡ 0)
       → (holds′ ≡ false → (i : ℕ) → i < 64 → getD incumbent′ i 0 ≡ 0)
       → cutoff′ ≡ cutoff (w .checkpoint .minimum) (heldBy (P .old .order) (stepped (w .checkpoint) r path′ holds′ incumbent′))
       → Bound P path′ r cutoff′ ws ws′ bound′
-      → Arrives P (w .checkpoint .minimum) (visit (searchOf P) (w .checkpoint .minimum) (stateOf (P .old .order) (w .checkpoint)))
+      → Arrives connected P (w .checkpoint .minimum) (visit (searchOf connected P) (w .checkpoint .minimum) (stateOf (P .old .order) (w .checkpoint)))
       (record { checkpoint = stepped (w .checkpoint) r path′ holds′ incumbent′; pairs = r .pairs; cutoff = cutoff′; bound = bound′ }) ws′
   unfolding stateOf
   arrives {r} {path′} {incumbent′} {ws′} {holds′} state node rest long incumbent-rest none-rest cutoff-is made = record {
     checkpoint-is = next-is;
     ready = record {
-      shape = rw next-is (checkpoint-in-shape P (setting .sound) (w .checkpoint .minimum) _ (visit-shape (searchOf P) (w .checkpoint .minimum) _
-          (state-in-shape P (setting .sound) (w .checkpoint) (ready .node .path-length) (ready .shape))));
+      shape = rw next-is (checkpoint-in-shape connected P (setting .sound) (w .checkpoint .minimum) _ (visit-shape (searchOf connected P) (w .checkpoint .minimum) _
+          (state-in-shape connected P (setting .sound) (w .checkpoint) (ready .node .path-length) (ready .shape))));
       incumbent-length = long;
       node = node-kept setting node (made .same) (made .bounded .words);
       cutoff-is = cutoff-is;
@@ -165,50 +187,66 @@ module _ {P : Problem} {n : ℕ} {edges masks ws : List ℕ} {w : Walk} (setting
       next : Checkpoint
       next = stepped (w .checkpoint) r path′ holds′ incumbent′
 
-      next-is : next ≡ checkpointOf (w .checkpoint .minimum) (visit (searchOf P) (w .checkpoint .minimum) (stateOf (P .old .order) (w .checkpoint)))
+      next-is : next ≡ checkpointOf (w .checkpoint .minimum) (visit (searchOf connected P) (w .checkpoint .minimum) (stateOf (P .old .order) (w .checkpoint)))
       next-is =
           sym (checkpoint-tidy (P .old .order) next (setting .sound .old-sound .order-max) (node .path-length) long
           (omega (arith, node .depth-max, setting .sound .old-sound .order-max)) rest incumbent-rest none-rest)
           ∙ ap (checkpointOf (w .checkpoint .minimum)) state
 
-  -- a node whose upper bound is below the cutoff is left
-  step-left : {path′ ws′ : List ℕ} {r : Place} {bound′ : ℕ} → w .bound < w .cutoff
+  -- the walk leaves it too
+  visit-leaves : Leaves connected n edges w
+      → (let c = w .checkpoint in
+      visitPath (searchOf connected P) (c .minimum) (c .steps + 1) (take (c .depth) (c .path)) (heldBy (P .old .order) c)
+      ≡ goOn (c .steps + 1) (heldBy (P .old .order) c) (laterSiblings (rulesOf P) (take (c .depth) (c .path)) (length (take (c .depth) (c .path)))))
+  visit-leaves =
+      let c = w .checkpoint in
+      let S = searchOf connected P in
+      let p = take (c .depth) (c .path) in
+      let held = heldBy (P .old .order) c in
+      ⊎-elim
+      (λ low. visit-low S (c .minimum) (c .steps + 1) p held (omega (arith, own-cutoff, ready .bounded .low low)))
+      (λ last.
+      let is = ready .bounded .high (last .0) .0 in
+      rw (own-admits (last .2)) at
+      (visit-last S (c .minimum) (c .steps + 1) p held (omega (arith, own-cutoff)) (omega (arith, own-length, setting .order-is, last .1))))
+
+  -- so it is left
+  step-left : {path′ ws′ : List ℕ} {r : Place} {bound′ : ℕ} → Leaves connected n edges w
       → Retreats P (w .checkpoint .path) (w .checkpoint .depth) ws r path′ → Bound P path′ r (w .cutoff) ws ws′ bound′
-      → Arrives P (w .checkpoint .minimum) (visit (searchOf P) (w .checkpoint .minimum) (stateOf (P .old .order) (w .checkpoint)))
+      → Arrives connected P (w .checkpoint .minimum) (visit (searchOf connected P) (w .checkpoint .minimum) (stateOf (P .old .order) (w .checkpoint)))
       (record {
         checkpoint = stepped (w .checkpoint) r path′ (w .checkpoint .holds) (w .checkpoint .incumbent);
         pairs = r .pairs;
         cutoff = w .cutoff;
         bound = bound′;
       }) ws′
-  step-left {path′} {ws′} {r} low back made =
+  step-left {path′} {ws′} {r} why back made =
       let c = w .checkpoint in
-      let left = visit-low (searchOf P) (c .minimum) (c .steps + 1) (take (c .depth) (c .path)) (heldBy (P .old .order) c)
-      (omega (arith, own-cutoff, ready .bounded .low low)) in
+      let left = visit-leaves why in
       arrives (left-state (P .old .order) c r path′ ∙ retreats-state (c .steps + 1) (heldBy (P .old .order) c) back
-      ∙ sym (visit-node P (P .old .order) c busy ∙ (rw own-length at left)))
+      ∙ sym (visit-node connected P (P .old .order) c busy ∙ (rw own-length at left)))
       (back .node) (back .rest-zero (ready .shape .path-rest)) (ready .incumbent-length) (ready .shape .incumbent-rest) (ready .shape .none-rest)
       (sym own-cutoff) made
 
-  -- a last node that reaches the cutoff is held, and left
-  step-held : {path′ ws′ : List ℕ} {r : Place} {bound′ : ℕ} → w .cutoff ≤ w .bound → w .checkpoint .depth ≡ n
+  -- a last node that reaches the cutoff and may be held is held, and left
+  step-held : {path′ ws′ : List ℕ} {r : Place} {bound′ : ℕ} → w .cutoff ≤ w .bound → w .checkpoint .depth ≡ n → Admitted connected edges w true
       → Retreats P (w .checkpoint .path) (w .checkpoint .depth) ws r path′ → Bound P path′ r (w .pairs + 1) ws ws′ bound′
-      → Arrives P (w .checkpoint .minimum) (visit (searchOf P) (w .checkpoint .minimum) (stateOf (P .old .order) (w .checkpoint)))
+      → Arrives connected P (w .checkpoint .minimum) (visit (searchOf connected P) (w .checkpoint .minimum) (stateOf (P .old .order) (w .checkpoint)))
       (record {
         checkpoint = stepped (w .checkpoint) r path′ true (w .checkpoint .path);
         pairs = r .pairs;
         cutoff = w .pairs + 1;
         bound = bound′;
       }) ws′
-  step-held {path′} {ws′} {r} high last back made =
+  step-held {path′} {ws′} {r} high last may back made =
       let c = w .checkpoint in
       let is = ready .bounded .high high .0 in
       let p = take (c .depth) (c .path) in
       let whole : P .old .order ≡ c .depth = setting .order-is ∙ sym last in
-      let left = visit-last (searchOf P) (c .minimum) (c .steps + 1) p (heldBy (P .old .order) c) (omega (arith, own-cutoff))
+      let left = visit-last (searchOf connected P) (c .minimum) (c .steps + 1) p (heldBy (P .old .order) c) (omega (arith, own-cutoff))
       (omega (arith, own-length)) in
       arrives (held-state (P .old .order) c r path′ whole ∙ retreats-state (c .steps + 1) (some p) back
-      ∙ sym (visit-node P (P .old .order) c busy ∙ (rw own-length at left)))
+      ∙ sym (visit-node connected P (P .old .order) c busy ∙ (rw (own-length, own-admits may) at left)))
       (back .node) (back .rest-zero (ready .shape .path-rest)) (ready .node .path-length)
       (λ i h b. ready .shape .path-rest i (omega arith) b) (λ e. absurd (true≢false e))
       (rw whole (ap (λ (k : ℕ). k + 1) (ready .node .pairs-are))) made
@@ -216,7 +254,7 @@ module _ {P : Problem} {n : ℕ} {edges masks ws : List ℕ} {w : Walk} (setting
   -- after another node that reaches the cutoff comes its first child
   step-down : {path′ ws′ : List ℕ} {r : Place} {bound′ : ℕ} → w .cutoff ≤ w .bound → w .checkpoint .depth < P .old .order
       → Descends P (w .checkpoint .path) (w .checkpoint .depth) ws r path′ → Bound P path′ r (w .cutoff) ws ws′ bound′
-      → Arrives P (w .checkpoint .minimum) (visit (searchOf P) (w .checkpoint .minimum) (stateOf (P .old .order) (w .checkpoint)))
+      → Arrives connected P (w .checkpoint .minimum) (visit (searchOf connected P) (w .checkpoint .minimum) (stateOf (P .old .order) (w .checkpoint)))
       (record {
         checkpoint = stepped (w .checkpoint) r path′ (w .checkpoint .holds) (w .checkpoint .incumbent);
         pairs = r .pairs;
@@ -226,18 +264,18 @@ module _ {P : Problem} {n : ℕ} {edges masks ws : List ℕ} {w : Walk} (setting
   step-down {path′} {ws′} {r} high inner down made =
       let c = w .checkpoint in
       let is = ready .bounded .high high .0 in
-      let next = visit-inner (searchOf P) (c .minimum) (c .steps + 1) (take (c .depth) (c .path)) (heldBy (P .old .order) c)
+      let next = visit-inner (searchOf connected P) (c .minimum) (c .steps + 1) (take (c .depth) (c .path)) (heldBy (P .old .order) c)
       (omega (arith, own-cutoff)) (omega (arith, own-length)) in
       arrives (left-state (P .old .order) c r path′ ∙ down-state (c .steps + 1) (heldBy (P .old .order) c) r path′ (down .child .1) (down .goes-on)
-      ∙ sym (visit-node P (P .old .order) c busy ∙ next))
+      ∙ sym (visit-node connected P (P .old .order) c busy ∙ next))
       (down .node) (down .rest-zero (ready .shape .path-rest)) (ready .incumbent-length) (ready .shape .incumbent-rest) (ready .shape .none-rest)
       (sym own-cutoff) made
 
 -- Whatever the problem: the code made one visit, and is ready for another.
-abbrev pub Visits : ℕ → List ℕ → List ℕ → Walk → List ℕ → Walk → List ℕ → Type 0
-Visits n edges masks w ws w′ ws′ =
-    (P : Problem) → Setting P n edges masks → Ready P w ws
-    → Arrives P (w .checkpoint .minimum) (visit (searchOf P) (w .checkpoint .minimum) (stateOf (P .old .order) (w .checkpoint))) w′ ws′
+abbrev pub Visits : Bool → ℕ → List ℕ → List ℕ → Walk → List ℕ → Walk → List ℕ → Type 0
+Visits connected n edges masks w ws w′ ws′ =
+    (P : Problem) → Setting P n edges masks → Ready connected P w ws
+    → Arrives connected P (w .checkpoint .minimum) (visit (searchOf connected P) (w .checkpoint .minimum) (stateOf (P .old .order) (w .checkpoint))) w′ ws′
 
 module _ {n : ℕ} {edges masks ws ws′ path′ : List ℕ} {r : Place} {cutoff′ bound′ : ℕ} (w : Walk) (busy : w .checkpoint .finished ≡ false)
     (same : length ws′ ≡ length ws)
@@ -247,39 +285,39 @@ module _ {n : ℕ} {edges masks ws ws′ path′ : List ℕ} {r : Place} {cutoff
   bound-made : {P : Problem} → Setting P n edges masks → AtNode P path′ (r .depth) (r .pairs) ws → Bound P path′ r cutoff′ ws ws′ bound′
   bound-made {P} setting node = record { same = same; bounded = bounded .0 P (own-order setting) node; small = bounded .1 }
 
-  -- Whatever the problem, a node below the cutoff is left.
-  pub visits-left : cutoff′ ≡ w .cutoff → w .bound < w .cutoff
+  -- Whatever the problem, a node below the cutoff, or one that may not be held, is left.
+  pub visits-left : {connected : Bool} → cutoff′ ≡ w .cutoff → Leaves connected n edges w
       → ((P : Problem) → SoundProblem P → AtNode P (w .checkpoint .path) (w .checkpoint .depth) (w .pairs) ws
       → Retreats P (w .checkpoint .path) (w .checkpoint .depth) ws r path′)
-      → Visits n edges masks w ws
+      → Visits connected n edges masks w ws
       (record {
         checkpoint = stepped (w .checkpoint) r path′ (w .checkpoint .holds) (w .checkpoint .incumbent);
         pairs = r .pairs;
         cutoff = w .cutoff;
         bound = bound′;
       }) ws′
-  visits-left given low back =
+  visits-left given why back =
       λ P setting ready.
       let next = back P (setting .sound) (ready .node) in
-      step-left setting ready busy low next (rw given at (bound-made setting (next .node)))
+      step-left setting ready busy why next (rw given at (bound-made setting (next .node)))
 
-  -- Whatever the problem, a last node that reaches the cutoff is held, and left.
-  pub visits-held : cutoff′ ≡ w .pairs + 1 → w .cutoff ≤ w .bound → w .checkpoint .depth ≡ n
+  -- Whatever the problem, a last node that reaches the cutoff and may be held is held, and left.
+  pub visits-held : {connected : Bool} → cutoff′ ≡ w .pairs + 1 → w .cutoff ≤ w .bound → w .checkpoint .depth ≡ n → Admitted connected edges w true
       → ((P : Problem) → SoundProblem P → AtNode P (w .checkpoint .path) (w .checkpoint .depth) (w .pairs) ws
       → Retreats P (w .checkpoint .path) (w .checkpoint .depth) ws r path′)
-      → Visits n edges masks w ws
+      → Visits connected n edges masks w ws
       (record { checkpoint = stepped (w .checkpoint) r path′ true (w .checkpoint .path); pairs = r .pairs; cutoff = w .pairs + 1; bound = bound′ }) ws′
-  visits-held given high last back =
+  visits-held given high last may back =
       λ P setting ready.
       let next = back P (setting .sound) (ready .node) in
-      step-held setting ready busy high last next (rw given at (bound-made setting (next .node)))
+      step-held setting ready busy high last may next (rw given at (bound-made setting (next .node)))
 
   -- Whatever the problem, after another node that reaches the cutoff comes its first child.
-  pub visits-down : cutoff′ ≡ w .cutoff → w .cutoff ≤ w .bound → (w .checkpoint .depth ≡ n → ⊥)
+  pub visits-down : {connected : Bool} → cutoff′ ≡ w .cutoff → w .cutoff ≤ w .bound → (w .checkpoint .depth ≡ n → ⊥)
       → ((P : Problem) → SoundProblem P → w .checkpoint .depth < P .old .order
       → AtNode P (w .checkpoint .path) (w .checkpoint .depth) (w .pairs) ws
       → Words P (w .checkpoint .path) (w .checkpoint .depth) ws → Descends P (w .checkpoint .path) (w .checkpoint .depth) ws r path′)
-      → Visits n edges masks w ws
+      → Visits connected n edges masks w ws
       (record {
         checkpoint = stepped (w .checkpoint) r path′ (w .checkpoint .holds) (w .checkpoint .incumbent);
         pairs = r .pairs;
@@ -292,21 +330,22 @@ module _ {n : ℕ} {edges masks ws ws′ path′ : List ℕ} {r : Place} {cutoff
       let next = down P (setting .sound) below (ready .node) (ready .bounded .high high .1) in
       step-down setting ready busy high below next (rw given at (bound-made setting (next .node)))
 
--- The move of one visit: a node below the cutoff is left, a last node that reaches it is held and left, and after another comes its first child.
-pub data Moves (n : ℕ) (w : Walk) (ws : List ℕ) : Bool → List ℕ → ℕ → List ℕ → Place → Type 0 where
-  left : {path′ : List ℕ} {r : Place} → w .bound < w .cutoff
+-- The move of one visit: a node below the cutoff is left, a last node that reaches it is held, if it may be, and left, and after another comes its first
+-- child.
+pub data Moves (connected : Bool) (n : ℕ) (edges : List ℕ) (w : Walk) (ws : List ℕ) : Bool → List ℕ → ℕ → List ℕ → Place → Type 0 where
+  left : {path′ : List ℕ} {r : Place} → Leaves connected n edges w
       → ((P : Problem) → SoundProblem P → AtNode P (w .checkpoint .path) (w .checkpoint .depth) (w .pairs) ws
       → Retreats P (w .checkpoint .path) (w .checkpoint .depth) ws r path′)
-      → Moves n w ws (w .checkpoint .holds) (w .checkpoint .incumbent) (w .cutoff) path′ r
-  held : {path′ : List ℕ} {r : Place} → w .cutoff ≤ w .bound → w .checkpoint .depth ≡ n
+      → Moves connected n edges w ws (w .checkpoint .holds) (w .checkpoint .incumbent) (w .cutoff) path′ r
+  held : {path′ : List ℕ} {r : Place} → w .cutoff ≤ w .bound → w .checkpoint .depth ≡ n → Admitted connected edges w true
       → ((P : Problem) → SoundProblem P → AtNode P (w .checkpoint .path) (w .checkpoint .depth) (w .pairs) ws
       → Retreats P (w .checkpoint .path) (w .checkpoint .depth) ws r path′)
-      → Moves n w ws true (w .checkpoint .path) (w .pairs + 1) path′ r
+      → Moves connected n edges w ws true (w .checkpoint .path) (w .pairs + 1) path′ r
   down : {path′ : List ℕ} {r : Place} → w .cutoff ≤ w .bound → (w .checkpoint .depth ≡ n → ⊥)
       → ((P : Problem) → SoundProblem P → w .checkpoint .depth < P .old .order
       → AtNode P (w .checkpoint .path) (w .checkpoint .depth) (w .pairs) ws
       → Words P (w .checkpoint .path) (w .checkpoint .depth) ws → Descends P (w .checkpoint .path) (w .checkpoint .depth) ws r path′)
-      → Moves n w ws (w .checkpoint .holds) (w .checkpoint .incumbent) (w .cutoff) path′ r
+      → Moves connected n edges w ws (w .checkpoint .holds) (w .checkpoint .incumbent) (w .cutoff) path′ r
 
 -- what is known of the path that a visit leads to, beside its node: its trail, its last entry, and the rows that are open before that is met
 pub record Led (path′ : List ℕ) (r : Place) (trail′ ws : List ℕ) : Type 0 where
@@ -315,19 +354,19 @@ pub record Led (path′ : List ℕ) (r : Place) (trail′ ws : List ℕ) : Type 
   pub last-is : LastIs path′ (r .depth) (r .last)
 
 -- The bound of a node that reaches the cutoff, from the rows that are open.
-pub open-bound : {P : Problem} {n : ℕ} {edges masks ws : List ℕ} {w : Walk} → Setting P n edges masks → Ready P w ws → w .cutoff ≤ w .bound → w .pairs < 64
+pub open-bound : {connected : Bool} {P : Problem} {n : ℕ} {edges masks ws : List ℕ} {w : Walk} → Setting P n edges masks → Ready connected P w ws → w .cutoff ≤ w .bound → w .pairs < 64
     → w .bound ≡ w .pairs + openRows (w .checkpoint .depth) (w .pairs) ws
 open-bound setting ready high few =
     let known = ready .bounded .high high in
     known .0 ∙ sym (node-bound setting (ready .node) few (known .1))
 
 -- The place that the walk moves to is in bounds.
-pub moved-in-bounds : {n : ℕ} {edges masks first ws incumbent′ path′ : List ℕ} {w : Walk} {holds′ : Bool} {cutoff′ : ℕ} {r : Place}
-    → Resumes n edges masks first w ws → Moves n w ws holds′ incumbent′ cutoff′ path′ r
+pub moved-in-bounds : {connected : Bool} {n : ℕ} {edges masks first ws incumbent′ path′ : List ℕ} {w : Walk} {holds′ : Bool} {cutoff′ : ℕ} {r : Place}
+    → Resumes connected n edges masks first w ws → Moves connected n edges w ws holds′ incumbent′ cutoff′ path′ r
     → InBounds edges masks first path′ (r .depth) (r .pairs) ws
-moved-in-bounds resumes (left low back) =
+moved-in-bounds resumes (left why back) =
     node-in-bounds (resumes .setting) (back (resumes .problem) (resumes .setting .sound) (resumes .ready .node) .node) (resumes .first-are)
-moved-in-bounds resumes (held high last back) =
+moved-in-bounds resumes (held high last may back) =
     node-in-bounds (resumes .setting) (back (resumes .problem) (resumes .setting .sound) (resumes .ready .node) .node) (resumes .first-are)
 moved-in-bounds {w = w} resumes (down high inner first) =
     let ready = resumes .ready in
@@ -336,13 +375,13 @@ moved-in-bounds {w = w} resumes (down high inner first) =
     (resumes .first-are)
 
 -- Once the bound is made there, one visit is made.
-pub visits-moved : {n : ℕ} {edges masks ws ws′ incumbent′ path′ : List ℕ} {holds′ : Bool} {cutoff′ bound′ : ℕ} {r : Place} (w : Walk)
+pub visits-moved : {connected : Bool} {n : ℕ} {edges masks ws ws′ incumbent′ path′ : List ℕ} {holds′ : Bool} {cutoff′ bound′ : ℕ} {r : Place} (w : Walk)
     → w .checkpoint .finished ≡ false → length ws′ ≡ length ws
     → ((P : Problem) → Setting P (P .old .order) edges masks → AtNode P path′ (r .depth) (r .pairs) ws
     → Bounded P path′ (r .depth) cutoff′ ws′ bound′) × (bound′ < 2 ^ 64 - 1)
-    → Moves n w ws holds′ incumbent′ cutoff′ path′ r
-    → Visits n edges masks w ws
+    → Moves connected n edges w ws holds′ incumbent′ cutoff′ path′ r
+    → Visits connected n edges masks w ws
     (record { checkpoint = stepped (w .checkpoint) r path′ holds′ incumbent′; pairs = r .pairs; cutoff = cutoff′; bound = bound′ }) ws′
-visits-moved w busy same bounded (left low back) = visits-left w busy same bounded refl low back
-visits-moved w busy same bounded (held high last back) = visits-held w busy same bounded refl high last back
+visits-moved w busy same bounded (left why back) = visits-left w busy same bounded refl why back
+visits-moved w busy same bounded (held high last may back) = visits-held w busy same bounded refl high last may back
 visits-moved w busy same bounded (down high inner first) = visits-down w busy same bounded refl high inner first

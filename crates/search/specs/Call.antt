@@ -1,5 +1,5 @@
--- One search call, by 01's table in its order: 01, "Bookmark and calls", second paragraph, and the rows "Bookmark" and "Search call" of the refusals;
--- 02, U1, puts the list's before them.
+-- One call of either search, by 01's table in its order: 01, "Bookmark and calls", second paragraph, and the rows "Bookmark" and "Search call" of the refusals;
+-- 02, U1, puts the list's before them, and U7 adds the connected search.
 use mathlib.Core.Bool.{Bool, cond, _||_}
 use mathlib.Core.List.{List, _++_}
 use Prim.Native.Nat.{ℕ, zero, suc, _+_, _^_}
@@ -44,9 +44,9 @@ arrive minimum R workspace s =
       workspace = replicate wordsNeeded 0 ++ drop wordsNeeded workspace;
     }
 
-unfoldable pub advance : Problem → Checkpoint → ℕ → List ℕ → Called
-advance P c budget workspace =
-    arrive (c .minimum) (rulesOf P) workspace (visits (searchOf P) (c .minimum) budget (stateOf (P .old .order) c))
+unfoldable pub advance : Bool → Problem → Checkpoint → ℕ → List ℕ → Called
+advance connected P c budget workspace =
+    arrive (c .minimum) (rulesOf P) workspace (visits (searchOf connected P) (c .minimum) budget (stateOf (P .old .order) c))
 
 -- 16: "unfinished and steps + allowance above 2^64 - 1"
 abbrev pub countFits : Checkpoint → ℕ → Bool
@@ -57,10 +57,10 @@ abbrev pub onPassed : Answer → Called → (ℕ → Called) → Called
 onPassed answer done refusal = onAnswer done refusal refusal (λ number at. refusal number) answer
 
 -- 10, 11, 12, 23 and 24; then 14; then 15; then 16
-unfoldable pub searchCall : Problem → Checkpoint → ℕ → List ℕ → Called
-searchCall P c budget workspace =
-    onPassed (checkpointAnswer P c)
+unfoldable pub searchCall : Bool → Problem → Checkpoint → ℕ → List ℕ → Called
+searchCall connected P c budget workspace =
+    onPassed (checkpointAnswer connected P c)
     (cond (leb wordsNeeded (length workspace))
-    (cond (countFits c budget) (advance P c budget workspace) (refuse c workspace 16))
+    (cond (countFits c budget) (advance connected P c budget workspace) (refuse c workspace 16))
     (refuse c workspace 15))
     (refuse c workspace)

@@ -1,7 +1,7 @@
 -- What the search's code holds between two visits: a checkpoint with its pairs and its cutoff counted, and the words of its path's ancestors
 -- (01, "The walk" and "Bookmark and calls").
 use mathlib.Core.Path.{_≡_}
-use mathlib.Core.Bool.{true, false}
+use mathlib.Core.Bool.{Bool, true, false}
 use mathlib.Core.Logic.{_⊎_, _≢_}
 use mathlib.Core.List.{List, [], _∷_, map}
 use Prim.Native.Nat.{ℕ, suc, _+_, _-_, _*_, _^_, _≤_, _<_}
@@ -62,8 +62,8 @@ pub record Bounded (P : Problem) (path : List ℕ) (depth cutoff : ℕ) (workspa
   pub words : Words P path (depth - 1) workspace
 
 -- what holds between two visits
-pub record Ready (P : Problem) (w : Walk) (workspace : List ℕ) : Type 0 where
-  pub shape : InShape P (w .checkpoint)
+pub record Ready (connected : Bool) (P : Problem) (w : Walk) (workspace : List ℕ) : Type 0 where
+  pub shape : InShape connected P (w .checkpoint)
   pub incumbent-length : length (w .checkpoint .incumbent) ≡ 64
   pub node : AtNode P (w .checkpoint .path) (w .checkpoint .depth) (w .pairs) workspace
   pub cutoff-is : w .cutoff ≡ cutoff (w .checkpoint .minimum) (stateOf (P .old .order) (w .checkpoint) .incumbent)
@@ -71,9 +71,9 @@ pub record Ready (P : Problem) (w : Walk) (workspace : List ℕ) : Type 0 where
   pub small : w .bound < 2 ^ 64 - 1
 
 -- the checkpoint is that of a state, and the walk is ready for a visit there
-pub record Arrives (P : Problem) (minimum : ℕ) (s : State) (w : Walk) (workspace : List ℕ) : Type 0 where
+pub record Arrives (connected : Bool) (P : Problem) (minimum : ℕ) (s : State) (w : Walk) (workspace : List ℕ) : Type 0 where
   pub checkpoint-is : w .checkpoint ≡ checkpointOf minimum s
-  pub ready : Ready P w workspace
+  pub ready : Ready connected P w workspace
 
 -- one more than the greatest upper bound of a node's children after the choice w
 abbrev pub levelTop : Rules → List ℕ → ℕ → ℕ
@@ -143,13 +143,13 @@ abbrev pub CountFits : Checkpoint → ℕ → Type 0
 CountFits c budget = c .finished ≡ false → c .steps + budget < 2 ^ 64
 
 -- some problem's search can go on from here with what the code is lent
-pub record Resumes (n : ℕ) (edges masks first : List ℕ) (w : Walk) (workspace : List ℕ) : Type 0 where
+pub record Resumes (connected : Bool) (n : ℕ) (edges masks first : List ℕ) (w : Walk) (workspace : List ℕ) : Type 0 where
   pub problem : Problem
   pub setting : Setting problem n edges masks
   pub first-are : First edges first
-  pub ready : Ready problem w workspace
+  pub ready : Ready connected problem w workspace
 
 -- a walk at the checkpoint, ready for a visit
-pub record Starts (P : Problem) (c : Checkpoint) (w : Walk) (workspace : List ℕ) : Type 0 where
+pub record Starts (connected : Bool) (P : Problem) (c : Checkpoint) (w : Walk) (workspace : List ℕ) : Type 0 where
   pub checkpoint-is : w .checkpoint ≡ c
-  pub ready : Ready P w workspace
+  pub ready : Ready connected P w workspace

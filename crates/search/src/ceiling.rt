@@ -8,6 +8,7 @@ use mapping::NewVertex;
 use mapping::OldVertex;
 use mapping::UNMAPPED;
 ghost use mathlib.Core.Path.{_≡_};
+ghost use mathlib.Core.Bool.{Bool};
 ghost use mathlib.Core.List.{List};
 ghost use Prim.Native.Nat.{ℕ, _-_, _^_, _≤_, _<_, max};
 ghost use lib.ListN.{length, take};
@@ -124,7 +125,7 @@ pub fn ceiling(
 ) -> usize
     requires { ⌜ InBounds (now edges) (now masks) (now first) (walk .checkpoint .path) (walk .checkpoint .depth) (walk .pairs) (now workspace) ⌝ }
     requires { ⌜ walk .bound < 2 ^ 64 - 1 ⌝ }
-    ensures { λ r. ⌜ ((P : Problem) → Setting P (P .old .order) (now (edges .entry)) (now (masks .entry)) → Ready P walk (now (workspace .entry))
+    ensures { λ r. ⌜ ((connected : Bool) (P : Problem) → Setting P (P .old .order) (now (edges .entry)) (now (masks .entry)) → Ready connected P walk (now (workspace .entry))
         → r ≡ ceilingOf (rulesOf P) (walk .checkpoint .minimum) (stateOf (P .old .order) (walk .checkpoint))) ⌝ }
 {
     let mut top = walk.cutoff;

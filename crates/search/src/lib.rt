@@ -1,4 +1,4 @@
-// The search for the largest common subgraph of two graphs: resumable calls on a checkpoint.
+// The search for the largest common subgraph of two graphs, or for the largest connected one: resumable calls on a checkpoint.
 
 mod ceiling;
 mod walk;
@@ -69,15 +69,16 @@ fn advance<'a>(
     labels: Labels<'a>,
     edges: Edges<'a>,
     substitutes: &[u8],
+    connected: bool,
     checkpoint: Checkpoint,
     budget: u64,
     workspace: &mut [u64],
 ) -> Searched
     requires { ⌜ SoundProblem (lent orders labels edges (now substitutes)) ⌝ }
-    requires { ⌜ InShape (lent orders labels edges (now substitutes)) checkpoint ⌝ }
+    requires { ⌜ InShape connected (lent orders labels edges (now substitutes)) checkpoint ⌝ }
     requires { ⌜ (length (now workspace) ≡ 4160) × T (countFits checkpoint budget) ⌝ }
     ensures { λ r. ⌜ calledOf r (now (workspace .exit))
-        ≡ advanced (lent orders (labels .entry) (edges .entry) (now (substitutes .entry))) checkpoint budget (now (workspace .entry)) ⌝ }
+        ≡ advanced connected (lent orders (labels .entry) (edges .entry) (now (substitutes .entry))) checkpoint budget (now (workspace .entry)) ⌝ }
 {
     let old_order = orders[0];
     let old_edges = edges[0];
@@ -86,6 +87,7 @@ fn advance<'a>(
     let allowed = problem::allowed_sets(labels, edges, substitutes);
     words::root_words(old_order, &allowed, workspace);
     let first = words::all_first(old_order, old_edges);
+    let neighbours = walk::neighbours_for(connected, old_edges);
     let mut trail = [0usize; MAX_ORDER];
     let start = walk::start(
         checkpoint,
@@ -98,11 +100,13 @@ fn advance<'a>(
     );
     let end = walk::run(
         start,
+        connected,
         budget,
         old_order,
         old_edges,
         &masks,
         &first,
+        &neighbours,
         &mut trail,
         workspace,
     );
@@ -115,20 +119,21 @@ fn advance<'a>(
     }
 }
 
-// One search call: the checkpoint is advanced by as many visits as the budget says, and the ceiling is returned.
+// One call of the first search, or of the connected one: the checkpoint is advanced by as many visits as the budget says, and the ceiling is returned.
 pub fn search<'a>(
     orders: Orders,
     labels: Labels<'a>,
     edges: Edges<'a>,
     substitutes: &[u8],
+    connected: bool,
     checkpoint: Checkpoint,
     budget: u64,
     workspace: &mut [u64],
 ) -> Searched
     ensures { λ r. ⌜ calledOf r (now (workspace .exit))
-        ≡ searchCall (lent orders (labels .entry) (edges .entry) (now (substitutes .entry))) checkpoint budget (now (workspace .entry)) ⌝ }
+        ≡ searchCall connected (lent orders (labels .entry) (edges .entry) (now (substitutes .entry))) checkpoint budget (now (workspace .entry)) ⌝ }
 {
-    match checkpoint::check_checkpoint(orders, labels, edges, substitutes, checkpoint) {
+    match checkpoint::check_checkpoint(orders, labels, edges, substitutes, connected, checkpoint) {
         ShapeAnswer::Flawed(flaw) => Searched {
             answer: SearchAnswer::Flawed(flaw),
             checkpoint,
@@ -156,6 +161,7 @@ pub fn search<'a>(
                 labels,
                 edges,
                 substitutes,
+                connected,
                 checkpoint,
                 budget,
                 &mut workspace[..WORDS],

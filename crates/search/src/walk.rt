@@ -1,4 +1,4 @@
-// One visit of the walk, by value, and a run of visits, over a workspace that holds the candidate words of the path's ancestors.
+// One visit of the walk, by value, of the first search or the connected one, and a run of visits, over a workspace that holds the candidate words of the path's ancestors.
 
 use super::words;
 use bitset::Least;
@@ -8,12 +8,13 @@ use mapping::NewVertex;
 use mapping::OldVertex;
 use mapping::UNMAPPED;
 ghost use mathlib.Core.Path.{_≡_};
-ghost use mathlib.Core.Bool.{false};
+ghost use mathlib.Core.Bool.{Bool, true, false, not, _||_};
 ghost use mathlib.Core.List.{List};
 ghost use Prim.Native.Nat.{ℕ, _+_, _-_, _≤_, _<_, _^_};
-ghost use lib.ListN.{length, take};
+ghost use lib.ListN.{length, getD, take};
 ghost use Rattle.problem.specs.Problem.{Problem, SoundProblem};
 ghost use Rattle.mapping.specs.Common.{size};
+ghost use Rattle.connected.specs.Spreading.{mappedSet, connectedSet, Neighbours};
 ghost use Rattle.search_tree.specs.Rules.{rulesOf};
 ghost use Rattle.search_tree.specs.Search.{searchOf};
 ghost use Rattle.search_tree.specs.Trees.{Reached};
@@ -253,24 +254,70 @@ pub fn retreat(
     }
 }
 
+// The neighbours of each old vertex, which only the connected search reads.
+pub fn neighbours_for(connected: bool, edges: &[u8]) -> [u64; MAX_ORDER]
+    ensures { λ r. ⌜ (connected ≡ true → Neighbours (now (edges .entry)) r) ⌝ }
+{
+    if !connected {
+        return [0u64; MAX_ORDER];
+    }
+    connected::neighbours(edges)
+}
+
+// The rows of all `pairs` pairs on the trail, as a set.
+pub fn trail_rows(trail: &[usize; MAX_ORDER], pairs: usize) -> u64
+    requires { ⌜ (length (now trail) ≡ 64) × (pairs ≤ 64) ⌝ }
+    ensures { λ r. ⌜ ((path : List ℕ) (depth : ℕ) (workspace : List ℕ) → length path ≡ 64 → depth ≤ 64 → pairs ≡ size (take depth path)
+        → Trail path depth (now (trail .entry)) workspace → r ≡ mappedSet (take depth path)) ⌝ }
+{
+    let mut set = 0;
+    let mut left = pairs;
+    while 0 < left {
+        left -= 1;
+        set = bitset::with(set, trail[left] / MAX_ORDER % MAX_ORDER);
+    }
+    set
+}
+
+// Whether a last node may be held: in the first search always, in the connected one where the rows of its pairs hang together.
+pub fn admitted(
+    connected: bool,
+    neighbours: &[u64; MAX_ORDER],
+    trail: &[usize; MAX_ORDER],
+    pairs: usize,
+) -> bool
+    requires { ⌜ (length (now trail) ≡ 64) × (pairs ≤ 64) ⌝ }
+    ensures { λ r. ⌜ ((path : List ℕ) (depth : ℕ) (workspace : List ℕ) → length path ≡ 64 → depth ≤ 64 → pairs ≡ size (take depth path)
+        → Trail path depth (now (trail .entry)) workspace
+        → r ≡ (not connected || connectedSet (λ v. getD (now (neighbours .entry)) v 0) (mappedSet (take depth path)))) ⌝ }
+{
+    if !connected {
+        return true;
+    }
+    connected::is_connected_set(neighbours, trail_rows(trail, pairs))
+}
+
 impl Walk {
     // One visit turns a checkpoint into the next, and leaves the words of the next node's ancestors.
     pub fn visit(
         self,
+        connected: bool,
         order: usize,
         edges: &[u8],
         masks: &[u64],
         first: &[u64; MAX_ORDER],
         numbers: &[u8; MAX_ORDER],
+        neighbours: &[u64; MAX_ORDER],
         trail: &mut [usize; MAX_ORDER],
         workspace: &mut [u64],
     ) -> Walk
-        requires { ⌜ Resumes order (now edges) (now masks) (now first) self (now workspace) ⌝ }
+        requires { ⌜ Resumes connected order (now edges) (now masks) (now first) self (now workspace) ⌝ }
         requires { ⌜ (self .checkpoint .finished ≡ false) × (self .checkpoint .steps + 1 < 2 ^ 64) × Numbers (now numbers)
-            × Trail (self .checkpoint .path) (self .checkpoint .depth) (now trail) (now workspace) ⌝ }
-        ensures visited { λ r. ⌜ ((P : Problem) → Setting P order (now (edges .entry)) (now (masks .entry)) → Ready P self (now (workspace .entry))
-            → Arrives P (self .checkpoint .minimum)
-            (visit (searchOf P) (self .checkpoint .minimum) (stateOf (P .old .order) (self .checkpoint))) r (now (workspace .exit))) ⌝ }
+            × Trail (self .checkpoint .path) (self .checkpoint .depth) (now trail) (now workspace)
+            × (connected ≡ true → Neighbours (now edges) (now neighbours)) ⌝ }
+        ensures visited { λ r. ⌜ ((P : Problem) → Setting P order (now (edges .entry)) (now (masks .entry)) → Ready connected P self (now (workspace .entry))
+            → Arrives connected P (self .checkpoint .minimum)
+            (visit (searchOf connected P) (self .checkpoint .minimum) (stateOf (P .old .order) (self .checkpoint))) r (now (workspace .exit))) ⌝ }
         ensures trail { λ r. ⌜ Trail (r .checkpoint .path) (r .checkpoint .depth) (now (trail .exit)) (now (workspace .exit)) ⌝ }
     {
         let minimum = self.checkpoint.minimum;
@@ -291,9 +338,11 @@ impl Walk {
         if self.bound < cutoff {
             place = retreat(numbers, &mut path, trail, workspace, pairs);
         } else if depth == order {
-            holds = true;
-            incumbent = path;
-            cutoff = pairs + 1;
+            if admitted(connected, neighbours, trail, pairs) {
+                holds = true;
+                incumbent = path;
+                cutoff = pairs + 1;
+            }
             place = retreat(numbers, &mut path, trail, workspace, pairs);
         } else {
             place = descend(
@@ -347,8 +396,8 @@ pub fn start(
     requires { ⌜ InBounds (now edges) (now masks) (now first) (checkpoint .path) (checkpoint .depth)
         (size (take (checkpoint .depth) (checkpoint .path))) (now workspace) ⌝ }
     requires { ⌜ (length (checkpoint .incumbent) ≡ 64) × (order ≤ 64) × (length (now trail) ≡ 64) ⌝ }
-    ensures starts { λ r. ⌜ ((P : Problem) → Setting P order (now (edges .entry)) (now (masks .entry)) → InShape P checkpoint
-        → Words P (checkpoint .path) 0 (now (workspace .entry)) → Starts P checkpoint r (now (workspace .exit))) ⌝ }
+    ensures starts { λ r. ⌜ ((connected : Bool) (P : Problem) → Setting P order (now (edges .entry)) (now (masks .entry)) → InShape connected P checkpoint
+        → Words P (checkpoint .path) 0 (now (workspace .entry)) → Starts connected P checkpoint r (now (workspace .exit))) ⌝ }
     ensures trail { λ _. ⌜ Trail (checkpoint .path) (checkpoint .depth) (now (trail .exit)) (now (workspace .exit)) ⌝ }
 {
     let depth = checkpoint.depth;
@@ -378,19 +427,22 @@ pub fn start(
 // memory.
 pub fn run(
     walk: Walk,
+    connected: bool,
     budget: u64,
     order: usize,
     edges: &[u8],
     masks: &[u64],
     first: &[u64; MAX_ORDER],
+    neighbours: &[u64; MAX_ORDER],
     trail: &mut [usize; MAX_ORDER],
     workspace: &mut [u64],
 ) -> Walk
-    requires { ⌜ CountFits (walk .checkpoint) budget × Resumes order (now edges) (now masks) (now first) walk (now workspace)
-        × Trail (walk .checkpoint .path) (walk .checkpoint .depth) (now trail) (now workspace) ⌝ }
-    ensures { λ r. ⌜ ((P : Problem) → Setting P order (now (edges .entry)) (now (masks .entry)) → Ready P walk (now (workspace .entry))
-        → Arrives P (walk .checkpoint .minimum)
-        (visits (searchOf P) (walk .checkpoint .minimum) budget (stateOf (P .old .order) (walk .checkpoint))) r (now (workspace .exit))) ⌝ }
+    requires { ⌜ CountFits (walk .checkpoint) budget × Resumes connected order (now edges) (now masks) (now first) walk (now workspace)
+        × Trail (walk .checkpoint .path) (walk .checkpoint .depth) (now trail) (now workspace)
+        × (connected ≡ true → Neighbours (now edges) (now neighbours)) ⌝ }
+    ensures { λ r. ⌜ ((P : Problem) → Setting P order (now (edges .entry)) (now (masks .entry)) → Ready connected P walk (now (workspace .entry))
+        → Arrives connected P (walk .checkpoint .minimum)
+        (visits (searchOf connected P) (walk .checkpoint .minimum) budget (stateOf (P .old .order) (walk .checkpoint))) r (now (workspace .exit))) ⌝ }
 {
     let mut at = walk;
     let mut last = walk.checkpoint.steps;
@@ -400,7 +452,17 @@ pub fn run(
     }
     let numbers = row_numbers();
     while at.checkpoint.steps < last {
-        at = at.visit(order, edges, masks, first, &numbers, trail, workspace);
+        at = at.visit(
+            connected,
+            order,
+            edges,
+            masks,
+            first,
+            &numbers,
+            neighbours,
+            trail,
+            workspace,
+        );
         let finished = at.checkpoint.finished;
         if finished {
             last = at.checkpoint.steps;

@@ -163,9 +163,9 @@ module _ (P : Problem) (sound : SoundProblem P) where
       same : length path ≡ P .old .order → filled (rulesOf P) path ≡ path
       same e = let none : P .old .order - length path ≡ 0 = omega arith in rw (none, append-nil)
 
-  -- The last nodes of the tree are the common subgraphs.
-  pub last-common : (l : List ℕ) → Under (tree (searchOf P)) [] l ↔ Common P l
-  last-common l = (
-    λ u. full-common l .0 (under-root (searchOf P) l .0 u),
-    λ c. under-root (searchOf P) l .1 (full-common l .1 c),
+  -- The last nodes of the tree are the common subgraphs, whichever the search.
+  pub last-common : (connected : Bool) (l : List ℕ) → Under (tree (searchOf connected P)) [] l ↔ Common P l
+  last-common connected l = (
+    λ u. full-common l .0 (under-root (searchOf connected P) l .0 u),
+    λ c. under-root (searchOf connected P) l .1 (full-common l .1 c),
   )

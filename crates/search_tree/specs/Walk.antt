@@ -1,4 +1,4 @@
--- The walk: one visit, the state after k visits, and the total (01, "The walk", second and third paragraph).
+-- The walk: one visit, the state after k visits, and the total (01, "The walk", second and third paragraph, and 02, U7).
 use mathlib.Core.Path.{_≡_}
 use mathlib.Core.Bool.{Bool, true, false, cond}
 use mathlib.Core.List.{List, [], _∷_}
@@ -37,7 +37,8 @@ goOn steps incumbent (path ∷ rest) = record { steps = steps; path = path; fini
 abbrev pub retreat : Rules → ℕ → List ℕ → Option (List ℕ) → State
 retreat R steps path incumbent = goOn steps incumbent (laterSiblings R path (length path))
 
--- "Hope below target: the node is left. Else, at d = n: the path is held as the matching. Else its children follow."
+-- "Hope below target: the node is left. Else, at d = n: the path is held as the matching. Else its children follow." 02, U7: "A last node that isn't connected is
+-- visited and not held", which `admits` tells.
 unfoldable pub visitPath : Search → ℕ → ℕ → List ℕ → Option (List ℕ) → State
 visitPath S minimum steps path incumbent =
     cond (ltb (upperBound (S .rules) path) (cutoff minimum incumbent)) (retreat (S .rules) steps path incumbent)

@@ -1,4 +1,4 @@
--- What the limit foretold says of V and of the walk (02, U5).
+-- What the limit foretold says of V and of the walk of either search (02, U5 and U7).
 use mathlib.Core.Path.{_≡_}
 use mathlib.Core.Bool.{Bool, true, false, cond, _&&_, and-false}
 use mathlib.Core.Logic.{_⊎_, ⊎-elim}
@@ -48,14 +48,14 @@ module _ (P : Problem) (sound : SoundProblem P) where
   pub sound-foretold : foretold (P .new .order) (P .old .order) ≡ accepted (capped (stepLimit (P .new .order) (P .old .order)))
   sound-foretold = foretold-limit (P .new .order) (P .old .order) (sound .new-sound .order-max) (sound .old-sound .order-max)
 
-  module _ (minimum v : ℕ) (told : foretold (P .new .order) (P .old .order) ≡ accepted v) (below : v < cap) where
-    -- The walk's total is at most a limit below the cap, whatever the minimum:
-    pub total-foretold : {t : ℕ} → IsTotal (searchOf P) minimum t → t ≤ v
+  module _ (connected : Bool) (minimum v : ℕ) (told : foretold (P .new .order) (P .old .order) ≡ accepted v) (below : v < cap) where
+    -- The total of either search is at most a limit below the cap, whatever the minimum:
+    pub total-foretold : {t : ℕ} → IsTotal (searchOf connected P) minimum t → t ≤ v
     total-foretold total =
-        omega (arith, total-limit P sound minimum total, below-cap (P .new .order) (P .old .order) v told below)
+        omega (arith, total-limit connected P sound minimum total, below-cap (P .new .order) (P .old .order) v told below)
 
     -- so many visits finish it.
-    pub limit-finishes : after (searchOf P) minimum v .finished ≡ true
+    pub limit-finishes : after (searchOf connected P) minimum v .finished ≡ true
     limit-finishes =
-        let end = walk-ends P sound minimum in
-        finished-from (searchOf P) minimum (end .1) v .1 (total-foretold (end .1))
+        let end = walk-ends connected P sound minimum in
+        finished-from (searchOf connected P) minimum (end .1) v .1 (total-foretold (end .1))

@@ -1,10 +1,10 @@
-//! `bench` times the proved search, through the C interface, beside `fast` on the same graphs. It
-//! takes processor time, so that other work on the machine counts less, and the best of several
-//! rounds.
+//! `bench` times the proved search, through the C interface, beside `fast` on the same graphs, both
+//! as the first search and as the connected one. It takes processor time, so that other work on the
+//! machine counts less, and the best of several rounds.
 //!
-//! `bench proved WALK VISITS` and `bench fast WALK VISITS` make so many visits of one walk by one of
-//! the two alone, untimed, for a program that counts instructions. The script `instructions` beside
-//! `run` does this with valgrind, and divides by the visits.
+//! `bench proved WALK VISITS [connected]` and `bench fast WALK VISITS [connected]` make so many
+//! visits of one walk by one of the two alone, untimed, for a program that counts instructions. The
+//! script `instructions` beside `run` does this with valgrind, and divides by the visits.
 
 use std::env;
 use std::mem;
@@ -15,12 +15,12 @@ use harness::answer::Answer;
 use harness::cases::{graph, Style};
 use harness::fast::Search;
 use harness::library::{
-    self, CHECKPOINT_BYTES, MAX_VERTICES, NO_SUBSTITUTES, SUBSTITUTES_BYTES, UNMAPPED,
-    WORKSPACE_WORDS,
+    self, CHECKPOINT_BYTES, CONNECTED_SEARCH, FIRST_SEARCH, MAX_VERTICES, NO_SUBSTITUTES,
+    SUBSTITUTES_BYTES, UNMAPPED, WORKSPACE_WORDS,
 };
 use harness::panels;
 use harness::random::Random;
-use harness::reference::{Checkpoint, Graph, Problem, Substitutes};
+use harness::reference::{Checkpoint, Graph, Problem, Sought, Substitutes};
 use harness::timing::timed;
 
 /// A walk of 20 million visits is timed in slices.
@@ -30,6 +30,8 @@ const ROUNDS: usize = 5;
 const CALLS: u32 = 200;
 const TESTS: u32 = 2000;
 const WANTED_RATIO: f64 = 2.0;
+/// What a visit of the connected search takes, over what one of the first search takes.
+const WANTED_CONNECTED: f64 = 1.1;
 const WANTED_MICROSECONDS: f64 = 100.0;
 
 enum Shape {
@@ -129,36 +131,45 @@ fn main() -> ExitCode {
     let arguments: Vec<&str> = arguments.iter().map(String::as_str).collect();
     match arguments[..] {
         [] => time_all(),
-        [side, walk, visits] => match walk_alone(side, walk, visits) {
-            Some(steps) => println!("{steps} visits"),
-            None => return usage(),
-        },
+        [side, walk, visits] => return walk_alone(side, walk, visits, FIRST_SEARCH),
+        [side, walk, visits, "connected"] => {
+            return walk_alone(side, walk, visits, CONNECTED_SEARCH)
+        }
         _ => return usage(),
     }
     ExitCode::SUCCESS
 }
 
 fn usage() -> ExitCode {
-    eprintln!("bench\nbench proved WALK VISITS\nbench fast WALK VISITS\nwalks:");
+    eprintln!("bench\nbench proved WALK VISITS [connected]\nbench fast WALK VISITS [connected]");
+    eprintln!("walks:");
     for (number, shape) in WALKS.iter().enumerate() {
         eprintln!("  {number:2}: {shape}");
     }
     ExitCode::from(2)
 }
 
-/// Answers how many visits were made: fewer if the walk is finished.
-fn walk_alone(side: &str, walk: &str, visits: &str) -> Option<u64> {
+fn walk_alone(side: &str, walk: &str, visits: &str, connected: u32) -> ExitCode {
+    match visits_alone(side, walk, visits, connected) {
+        Some(steps) => println!("{steps} visits"),
+        None => return usage(),
+    }
+    ExitCode::SUCCESS
+}
+
+/// How many visits were made: fewer if the walk is finished.
+fn visits_alone(side: &str, walk: &str, visits: &str, connected: u32) -> Option<u64> {
     let problem = WALKS.get(walk.parse::<usize>().ok()?)?.problem();
     let visits = visits.parse().ok()?;
     match side {
         "proved" => {
-            let mut library = LibrarySearch::start(&problem);
+            let mut library = LibrarySearch::start(&problem, connected);
             library.advance(visits);
-            let reported = Checkpoint::load(&problem, &library.checkpoint);
-            reported.ok().map(|checkpoint| checkpoint.steps)
+            let reported = library.reported(&problem);
+            reported.map(|checkpoint| checkpoint.steps)
         }
         "fast" => {
-            let mut search = Search::start(&problem, 0);
+            let mut search = Search::start(&problem, Sought::from_flag(connected), 0);
             search.advance(visits);
             Some(search.checkpoint().steps)
         }
@@ -168,26 +179,45 @@ fn walk_alone(side: &str, walk: &str, visits: &str) -> Option<u64> {
 
 fn time_all() {
     println!("walks of {SLICES} * {SLICE} visits, best of {ROUNDS} rounds:");
-    let walks = WALKS.map(|shape| time_walk(&shape));
+    let walks = WALKS.map(|shape| {
+        let walks = time_walks(&shape);
+        println!("  {shape}: {}", walks[0]);
+        walks
+    });
+    println!("the same walks of the connected search, and a visit over one of the first search:");
+    let slowdowns = walks
+        .each_ref()
+        .map(|[first, connected]| connected.proved / first.proved);
+    for ((shape, [_, connected]), slowdown) in WALKS.iter().zip(&walks).zip(slowdowns) {
+        println!("  {shape}: {connected}, over the first {slowdown:.2}");
+    }
     println!("soundness tests, best of {ROUNDS} rounds of {TESTS} calls:");
     TESTED.iter().for_each(time_soundness);
     println!("calls of one visit, best of {ROUNDS} rounds of {CALLS} calls:");
-    let calls = SINGLE_CALLS.map(|shape| time_calls(&shape));
+    let calls = SINGLE_CALLS.map(|shape| time_calls(&shape, FIRST_SEARCH));
     println!("the same with {SUBSTITUTES_BYTES} bytes of substitutes:");
     let listed_calls = LISTED_CALLS.map(|shape| time_listed_calls(&shape));
+    println!("calls of one visit of the connected search, with the empty list:");
+    let connected_calls = SINGLE_CALLS.map(|shape| time_calls(&shape, CONNECTED_SEARCH));
 
-    let worst_ratio = walks.iter().map(|walk| walk.ratio).fold(0.0, f64::max);
-    let worst_call = calls.into_iter().chain(listed_calls).fold(0.0, f64::max);
-    let same = walks.iter().all(|walk| walk.same);
+    let same = walks.as_flattened().iter().all(|walk| walk.same);
     println!("same steps, incumbents and ceilings: {}", yes_or_no(same));
-    println!(
-        "ratio at most {WANTED_RATIO}: {} (worst {worst_ratio:.2})",
-        yes_or_no(worst_ratio <= WANTED_RATIO)
-    );
+    let worst = |search: usize| walks.iter().map(move |walks| walks[search].ratio());
+    at_most("ratio", WANTED_RATIO, worst(0));
+    at_most("ratio in the connected search", WANTED_RATIO, worst(1));
+    at_most("connected over first search", WANTED_CONNECTED, slowdowns);
+    let all_calls = calls.into_iter().chain(listed_calls).chain(connected_calls);
+    let worst_call = all_calls.fold(0.0, f64::max);
     println!(
         "a call below {WANTED_MICROSECONDS} microseconds: {} (worst {worst_call:.1})",
         yes_or_no(worst_call < WANTED_MICROSECONDS)
     );
+}
+
+fn at_most(what: &str, wanted: f64, of_walks: impl IntoIterator<Item = f64>) {
+    let worst = of_walks.into_iter().fold(0.0, f64::max);
+    let holds = yes_or_no(worst <= wanted);
+    println!("{what} at most {wanted}: {holds} (worst {worst:.2})");
 }
 
 fn yes_or_no(holds: bool) -> &'static str {
@@ -198,39 +228,119 @@ fn yes_or_no(holds: bool) -> &'static str {
     }
 }
 
+/// What a walk took of both sides, and whether they report the same.
 struct Walk {
-    ratio: f64,
-    /// Both report the same.
+    /// Nanoseconds a visit.
+    proved: f64,
+    fast: f64,
+    steps: u64,
     same: bool,
 }
 
-/// Both walk on in turn, slice by slice, and each slice counts with its best time.
-fn time_walk(shape: &Shape) -> Walk {
-    let problem = shape.problem();
-    let [mut proved, mut fast] = [[Duration::MAX; SLICES]; 2];
-    let mut same = true;
-    let mut steps = 0;
-    for _ in 0..ROUNDS {
-        let mut library = LibrarySearch::start(&problem);
-        let mut search = Search::start(&problem, 0);
-        let mut ceiling = 0;
-        for slice in 0..SLICES {
-            proved[slice] = proved[slice].min(timed(|| ceiling = library.advance(SLICE)));
-            fast[slice] = fast[slice].min(timed(|| search.advance(SLICE)));
+impl Walk {
+    fn ratio(&self) -> f64 {
+        self.proved / self.fast
+    }
+}
+
+impl std::fmt::Display for Walk {
+    fn fmt(&self, f: &mut std::fmt::Formatter) -> std::fmt::Result {
+        let Walk { proved, fast, .. } = self;
+        let ratio = self.ratio();
+        write!(
+            f,
+            "proved {proved:5.1} ns a visit, fast {fast:5.1} ns, ratio {ratio:.2}"
+        )?;
+        match self.steps < SLICES as u64 * SLICE {
+            true => write!(f, ", finished after {}", self.steps),
+            false => Ok(()),
         }
-        let reported = Checkpoint::load(&problem, &library.checkpoint);
-        same &= reported == Ok(search.checkpoint()) && ceiling == search.ceiling() as u64;
-        steps = search.checkpoint().steps;
     }
-    let [proved, fast] = [proved, fast].map(|slices| slices.iter().sum::<Duration>());
-    let ratio = proved.as_secs_f64() / fast.as_secs_f64();
-    let [proved, fast] = [proved, fast].map(|time| time.as_secs_f64() * 1e9 / steps as f64);
-    print!("  {shape}: proved {proved:5.1} ns a visit, fast {fast:5.1} ns, ratio {ratio:.2}");
-    match steps < SLICES as u64 * SLICE {
-        true => println!(", finished after {steps}"),
-        false => println!(),
+}
+
+/// The walk of the first search and that of the connected one. Both sides of both walk on in turn,
+/// slice by slice, and each slice counts with its best time.
+fn time_walks(shape: &Shape) -> [Walk; 2] {
+    let problem = shape.problem();
+    let mut timings = [FIRST_SEARCH, CONNECTED_SEARCH].map(Timing::new);
+    for _ in 0..ROUNDS {
+        let mut rounds = timings
+            .each_mut()
+            .map(|timing| Round::begin(&problem, timing));
+        for slice in 0..SLICES {
+            rounds.iter_mut().for_each(|round| round.walk(slice));
+        }
+        rounds.into_iter().for_each(|round| round.end(&problem));
     }
-    Walk { ratio, same }
+    timings.map(Timing::walk)
+}
+
+/// The best times of the slices of one search.
+struct Timing {
+    connected: u32,
+    proved: [Duration; SLICES],
+    fast: [Duration; SLICES],
+    steps: u64,
+    same: bool,
+}
+
+impl Timing {
+    fn new(connected: u32) -> Timing {
+        Timing {
+            connected,
+            proved: [Duration::MAX; SLICES],
+            fast: [Duration::MAX; SLICES],
+            steps: 0,
+            same: true,
+        }
+    }
+
+    fn walk(self) -> Walk {
+        let [proved, fast] = [self.proved, self.fast].map(|slices| {
+            let whole: Duration = slices.iter().sum();
+            whole.as_secs_f64() * 1e9 / self.steps as f64
+        });
+        Walk {
+            proved,
+            fast,
+            steps: self.steps,
+            same: self.same,
+        }
+    }
+}
+
+struct Round<'a> {
+    timing: &'a mut Timing,
+    library: LibrarySearch,
+    search: Search,
+    ceiling: u64,
+}
+
+impl Round<'_> {
+    fn begin<'a>(problem: &Problem, timing: &'a mut Timing) -> Round<'a> {
+        let connected = timing.connected;
+        Round {
+            timing,
+            library: LibrarySearch::start(problem, connected),
+            search: Search::start(problem, Sought::from_flag(connected), 0),
+            ceiling: 0,
+        }
+    }
+
+    fn walk(&mut self, slice: usize) {
+        let proved = timed(|| self.ceiling = self.library.advance(SLICE));
+        let fast = timed(|| self.search.advance(SLICE));
+        let timing = &mut self.timing;
+        timing.proved[slice] = timing.proved[slice].min(proved);
+        timing.fast[slice] = timing.fast[slice].min(fast);
+    }
+
+    fn end(self, problem: &Problem) {
+        let due = self.search.checkpoint();
+        self.timing.steps = due.steps;
+        self.timing.same &= self.library.reported(problem) == Some(due);
+        self.timing.same &= self.ceiling == self.search.ceiling() as u64;
+    }
 }
 
 /// A check of a mapping that leaves all out reads both graphs, tests both and does little else.
@@ -259,9 +369,9 @@ fn best_of_rounds(calls: u32, mut call: impl FnMut()) -> f64 {
 
 /// The microseconds of one call from the dearest of three checkpoints: fresh, on the first way
 /// down, and late.
-fn time_calls(shape: &Shape) -> f64 {
+fn time_calls(shape: &Shape, connected: u32) -> f64 {
     let problem = shape.problem();
-    let mut library = LibrarySearch::start(&problem);
+    let mut library = LibrarySearch::start(&problem, connected);
     let times = [0, 40, 100_000].map(|visits| {
         library.advance(visits);
         library.single_call_time()
@@ -277,13 +387,13 @@ fn time_calls(shape: &Shape) -> f64 {
 fn time_listed_calls(shape: &Shape) -> f64 {
     let mut problem = shape.problem();
     let last = mem::take(&mut problem.substitutes.pairs);
-    let empty = LibrarySearch::start(&problem).single_call_time();
+    let empty = LibrarySearch::start(&problem, FIRST_SEARCH).single_call_time();
 
     // the pairs before are about the old labels too, and let none agree
     let before = (0..SUBSTITUTES_BYTES / 4 - last.len())
         .map(|number| [problem.old.label(number % MAX_VERTICES), UNUSED_LABEL]);
     problem.substitutes.pairs = before.chain(last).collect();
-    let mut library = LibrarySearch::start(&problem);
+    let mut library = LibrarySearch::start(&problem, FIRST_SEARCH);
     let fresh = library.single_call_time();
     library.advance(MAX_VERTICES as u64 + 1);
     let down = library.single_call_time();
@@ -396,21 +506,23 @@ struct LibrarySearch {
     old: Vec<u8>,
     new: Vec<u8>,
     substitutes: Vec<u8>,
+    connected: u32,
     checkpoint: Vec<u8>,
     workspace: Vec<u64>,
 }
 
 impl LibrarySearch {
-    fn start(problem: &Problem) -> LibrarySearch {
+    fn start(problem: &Problem, connected: u32) -> LibrarySearch {
         let (old, new) = (problem.old.save(), problem.new.save());
         let substitutes = problem.substitutes.save();
         let mut checkpoint = vec![0; CHECKPOINT_BYTES];
-        let answer = library::start(&old, &new, &substitutes, 0, &mut checkpoint);
+        let answer = library::start(&old, &new, &substitutes, connected, 0, &mut checkpoint);
         checkpoint.truncate(accepted(answer).value as usize);
         LibrarySearch {
             old,
             new,
             substitutes,
+            connected,
             checkpoint,
             workspace: vec![0; WORKSPACE_WORDS],
         }
@@ -423,6 +535,11 @@ impl LibrarySearch {
         next.truncate(answer.value as usize);
         self.checkpoint = next;
         answer.ceiling
+    }
+
+    /// The checkpoint, if it is in shape.
+    fn reported(&self, problem: &Problem) -> Option<Checkpoint> {
+        Checkpoint::load(problem, Sought::from_flag(self.connected), &self.checkpoint).ok()
     }
 
     /// The microseconds of one call of one visit.
@@ -438,10 +555,21 @@ impl LibrarySearch {
             old,
             new,
             substitutes,
+            connected,
             checkpoint,
             workspace,
         } = self;
-        library::resume(old, new, substitutes, checkpoint, budget, workspace, next)
+        let search = *connected;
+        library::resume(
+            old,
+            new,
+            substitutes,
+            search,
+            checkpoint,
+            budget,
+            workspace,
+            next,
+        )
     }
 }
 

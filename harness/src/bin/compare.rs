@@ -121,6 +121,13 @@ fn summarise(judges: &[Judge]) {
         let without = listed(second_of(number, &own_edges));
         println!("{number} for own edges, without these  {without}");
     }
+    let islands = islands(judges);
+    for (number, _) in ISLANDS {
+        let first = listed(second_of(number, &islands));
+        println!("{number} for islands, in the first search  {first}");
+    }
+    let [first, second] = searches(judges);
+    println!("taken by the first search {first}, by the second {second}");
 }
 
 /// The second numbers of the pairs that begin with `first`.
@@ -146,11 +153,12 @@ const BESIDE_LIST: &[u32] = &[
 ];
 
 /// Kinds of comparison, and the numbers that have to come in each.
-const ANSWERS: [(&str, &[u32]); 4] = [
+const ANSWERS: [(&str, &[u32]); 5] = [
     ("graph", &[0, 1, 2, 3, 4, 5, 7, 8, 9, 27]),
     ("mover", &[0, 1, 2, 3, 4, 5, 7, 8, 9, 13, 27, 28]),
     ("relisted", &[0, 14]),
     ("rewired", &[0, 14]),
+    ("crossed", &[0, 14]),
 ];
 
 /// What a call is refused with for own edges alone: a checkpoint out of shape, a row of a mapping
@@ -158,13 +166,19 @@ const ANSWERS: [(&str, &[u32]); 4] = [
 /// the faults that come after it.
 const OWN_EDGES: Wanted<2> = [(14, &[0, 16]), (22, &[0, 19, 20, 21, 22])];
 
+/// What the second search refuses for a mapping that is not connected. With what the call may answer
+/// in the first search: nothing (0), or one of the faults that come after it.
+const ISLANDS: Wanted<1> = [(14, &[0, 13, 15, 16])];
+
 /// What never came: each of the faults with each other one, a refusal of graph bytes, and a search
-/// that goes on under another list or with other own edges, taken and refused.
+/// that goes on under another list, with other own edges or as the other search, taken and refused.
 fn missing(judges: &[Judge]) -> Vec<String> {
     let never = never_came(FAULTS, faults(judges));
     let mut missing: Vec<String> = never.map(|(f, b)| format!("{f} with {b}")).collect();
     let never = never_came(OWN_EDGES, own_edges(judges));
     missing.extend(never.map(|(number, other)| format!("{number}, without own edges {other}")));
+    let never = never_came(ISLANDS, islands(judges));
+    missing.extend(never.map(|(number, other)| format!("{number}, in the first search {other}")));
     for (name, numbers) in ANSWERS {
         let kind = KINDS.iter().position(|kind| kind.name == name);
         let answers = kind.map(|kind| &judges[kind].answers);
@@ -194,6 +208,14 @@ fn faults(judges: &[Judge]) -> Counts {
 
 fn own_edges(judges: &[Judge]) -> Counts {
     sums(judges.iter().map(|judge| &judge.own_edges))
+}
+
+fn islands(judges: &[Judge]) -> Counts {
+    sums(judges.iter().map(|judge| &judge.islands))
+}
+
+fn searches(judges: &[Judge]) -> [u64; 2] {
+    [0, 1].map(|search| judges.iter().map(|judge| judge.searches[search]).sum())
 }
 
 fn sums<'a, K: Copy + Ord + 'a>(

@@ -2,7 +2,7 @@
 
 use super::{advance, capped_limit, ceiling, check, clique_branch};
 use super::{entries_from_bytes, entries_to_bytes, size};
-use super::{Checkpoint, Edition, Graph, Problem, Reason, Refusal};
+use super::{Checkpoint, Edition, Graph, Problem, Reason, Refusal, Sought};
 use crate::answer::Answer;
 
 pub const CHECKPOINT_BYTES: usize = 270;
@@ -19,10 +19,12 @@ pub fn check_mapping(old: &[u8], new: &[u8], substitutes: &[u8], mapping: &[u8])
     answer(checked)
 }
 
+/// A checkpoint that has not begun holds nothing, so it is the same for both searches.
 pub fn start(
     old: &[u8],
     new: &[u8],
     substitutes: &[u8],
+    _connected: u32,
     minimum: u8,
     checkpoint: &mut [u8],
 ) -> Answer {
@@ -32,19 +34,22 @@ pub fn start(
     answer(started)
 }
 
+#[allow(clippy::too_many_arguments)]
 pub fn resume(
     old: &[u8],
     new: &[u8],
     substitutes: &[u8],
+    connected: u32,
     checkpoint: &[u8],
     budget: u64,
     workspace: &mut [u64],
     next: &mut [u8],
 ) -> Answer {
     let resumed = Problem::parse(old, new, substitutes).and_then(|problem| {
-        let checkpoint = Checkpoint::load(&problem, checkpoint)?;
+        let sought = Sought::from_flag(connected);
+        let checkpoint = Checkpoint::load(&problem, sought, checkpoint)?;
         may_advance(&checkpoint, budget, workspace)?;
-        let after = advance(&problem, &checkpoint, budget);
+        let after = advance(&problem, sought, &checkpoint, budget);
         let value = fill(next, &after.save())?;
         workspace[..WORKSPACE_WORDS].fill(0);
         Ok(Answer {
@@ -60,11 +65,12 @@ pub fn read_out(
     old: &[u8],
     new: &[u8],
     substitutes: &[u8],
+    connected: u32,
     checkpoint: &[u8],
     mapping: &mut [u8],
 ) -> Answer {
     let read = Problem::parse(old, new, substitutes).and_then(|problem| {
-        let checkpoint = Checkpoint::load(&problem, checkpoint)?;
+        let checkpoint = Checkpoint::load(&problem, Sought::from_flag(connected), checkpoint)?;
         let incumbent = checkpoint.incumbent.as_deref().unwrap_or_default();
         fill(mapping, &entries_to_bytes(incumbent))?;
         Ok(Answer {

@@ -1,7 +1,7 @@
 //! Checkpoints, their shape, and their bytes (01, "Bookmark and calls").
 
 use super::{check, entries_from_bytes, entries_to_bytes, size};
-use super::{Entry, Node, Problem, Reason, Refusal};
+use super::{Entry, Node, Problem, Reason, Refusal, Sought};
 
 #[derive(Clone, Debug, PartialEq, Eq)]
 pub struct Checkpoint {
@@ -37,21 +37,23 @@ impl Checkpoint {
         2 * u8::from(self.finished) + u8::from(self.incumbent.is_some())
     }
 
-    pub fn in_shape(&self, problem: &Problem) -> bool {
+    pub fn in_shape(&self, problem: &Problem, sought: Sought) -> bool {
         let depth = self.path.len();
         let at_start = !self.finished && depth == 0;
         depth <= problem.old.order()
             && reached(&Node::root(problem), &self.path)
-            && self.incumbent_in_shape(problem)
+            && self.incumbent_in_shape(problem, sought)
             && !(self.finished && depth > 0)
             && (self.steps == 0) == at_start
             && !(at_start && self.incumbent.is_some())
     }
 
-    fn incumbent_in_shape(&self, problem: &Problem) -> bool {
+    fn incumbent_in_shape(&self, problem: &Problem, sought: Sought) -> bool {
         let reaches = |size: usize| size >= self.minimum.into();
         match &self.incumbent {
-            Some(mapping) => check(problem, mapping).is_ok_and(reaches),
+            Some(mapping) => {
+                check(problem, mapping).is_ok_and(reaches) && sought.admits(&problem.old, mapping)
+            }
             None => true,
         }
     }
@@ -68,11 +70,11 @@ impl Checkpoint {
         bytes
     }
 
-    /// Bytes in the form, whose checkpoint is in shape.
-    pub fn load(problem: &Problem, bytes: &[u8]) -> Result<Checkpoint, Refusal> {
+    /// Bytes in the form, whose checkpoint is in shape for this search.
+    pub fn load(problem: &Problem, sought: Sought, bytes: &[u8]) -> Result<Checkpoint, Refusal> {
         let checkpoint = Checkpoint::parse(problem.old.order(), bytes)
             .map_err(|place| Refusal::at(Reason::NotInForm, place))?;
-        if checkpoint.in_shape(problem) {
+        if checkpoint.in_shape(problem, sought) {
             Ok(checkpoint)
         } else {
             Err(Reason::NotInShape.into())

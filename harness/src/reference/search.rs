@@ -1,8 +1,8 @@
-//! The search tree and the walk over it (01, "The walk").
+//! The search tree and the walk over it (01, "The walk"), of either search (02, U7).
 
 use std::ops::ControlFlow::{self, Break, Continue};
 
-use super::{size, Checkpoint, Entry, Problem};
+use super::{size, Checkpoint, Entry, Problem, Sought};
 
 /// A node decides the old vertices before `path.len()`.
 pub struct Node<'a> {
@@ -78,6 +78,7 @@ impl<'a> Node<'a> {
 
 /// What changes along the walk.
 struct Walk {
+    sought: Sought,
     budget: u64,
     steps: u64,
     cutoff: usize,
@@ -106,8 +107,10 @@ impl Walk {
             return Continue(());
         }
         if node.is_last() {
-            self.cutoff = size(&node.path) + 1;
-            self.incumbent = Some(node.path.clone());
+            if self.sought.admits(&node.problem.old, &node.path) {
+                self.cutoff = size(&node.path) + 1;
+                self.incumbent = Some(node.path.clone());
+            }
             return Continue(());
         }
         node.children().try_for_each(|child| self.visit(&child))
@@ -116,11 +119,17 @@ impl Walk {
 
 /// The checkpoint after `budget` more visits, fewer only if the search finishes. The sum of steps
 /// and budget must not overflow.
-pub fn advance(problem: &Problem, checkpoint: &Checkpoint, budget: u64) -> Checkpoint {
+pub fn advance(
+    problem: &Problem,
+    sought: Sought,
+    checkpoint: &Checkpoint,
+    budget: u64,
+) -> Checkpoint {
     if checkpoint.finished {
         return checkpoint.clone();
     }
     let mut walk = Walk {
+        sought,
         budget,
         steps: checkpoint.steps,
         cutoff: checkpoint.cutoff(),

@@ -36,17 +36,17 @@ of-read-requires c κs = search needs
 enum-known-old-order : tie.Need-enum-known-old-order
 enum-known-old-order c = search needs
 
-slice-aggregate-t32 : tie.Need-slice-aggregate-t32
-slice-aggregate-t32 c = search needs
+slice-aggregate-t33 : tie.Need-slice-aggregate-t33
+slice-aggregate-t33 c = search needs
 
-slice-aggregate-t34 : tie.Need-slice-aggregate-t34
-slice-aggregate-t34 c = search needs
+slice-aggregate-t35 : tie.Need-slice-aggregate-t35
+slice-aggregate-t35 c = search needs
 
-slice-aggregate-t37 : tie.Need-slice-aggregate-t37
-slice-aggregate-t37 c = search needs
+slice-aggregate-t38 : tie.Need-slice-aggregate-t38
+slice-aggregate-t38 c = search needs
 
-slice-aggregate-t39 : tie.Need-slice-aggregate-t39
-slice-aggregate-t39 c = search needs
+slice-aggregate-t40 : tie.Need-slice-aggregate-t40
+slice-aggregate-t40 c = search needs
 
 resume-requires : tie.Need-resume-requires
 resume-requires c κs = search needs
@@ -55,7 +55,7 @@ returns : tie.Need-returns
 returns c =
     let arm = c .before .before in
     let g = at-read (arm .before .before) in
-    resume-refused _ _ _ _ _ _ _ _ _ (c .of-read .ensures)
+    resume-refused _ _ _ _ _ _ _ _ _ _ (c .of-read .ensures)
     (problem-refused _ _ (g .read-problem .result) _ _ _ _ (g .read-problem .ensures) _ (arm .refusal .given .1))
 
 same-length : tie.Need-same-length
@@ -69,7 +69,7 @@ returns-2 c =
     let call = c .before .before .before .before in
     let arm = at-orders call in
     let g = at-read (arm .before .before) in
-    resume-read _ _ _ _ _ _ _
+    resume-read _ _ _ _ _ _ _ _
     _ (problem-read _ _ (g .read-problem .result) _ _ _ _ (g .read-problem .ensures) _ _ (arm .old-order .given .1))
     (call .resume .result) _ _ (call .resume .ensures)
 
@@ -85,10 +85,10 @@ golfcedar-resume-spec =
     enum-known-refusal
     of-read-requires
     enum-known-old-order
-    slice-aggregate-t32
-    slice-aggregate-t34
-    slice-aggregate-t37
-    slice-aggregate-t39
+    slice-aggregate-t33
+    slice-aggregate-t35
+    slice-aggregate-t38
+    slice-aggregate-t40
     resume-requires
     returns
     same-length

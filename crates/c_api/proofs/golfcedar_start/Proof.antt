@@ -39,17 +39,17 @@ enum-known-old-order c = search needs
 fresh-requires : tie.Need-fresh-requires
 fresh-requires c κs = search needs
 
-slice-aggregate-t31 : tie.Need-slice-aggregate-t31
-slice-aggregate-t31 c = search needs
+slice-aggregate-t32 : tie.Need-slice-aggregate-t32
+slice-aggregate-t32 c = search needs
 
-slice-aggregate-t33 : tie.Need-slice-aggregate-t33
-slice-aggregate-t33 c = search needs
+slice-aggregate-t34 : tie.Need-slice-aggregate-t34
+slice-aggregate-t34 c = search needs
 
-slice-aggregate-t36 : tie.Need-slice-aggregate-t36
-slice-aggregate-t36 c = search needs
+slice-aggregate-t37 : tie.Need-slice-aggregate-t37
+slice-aggregate-t37 c = search needs
 
-slice-aggregate-t38 : tie.Need-slice-aggregate-t38
-slice-aggregate-t38 c = search needs
+slice-aggregate-t39 : tie.Need-slice-aggregate-t39
+slice-aggregate-t39 c = search needs
 
 save-checkpoint-requires : tie.Need-save-checkpoint-requires
 save-checkpoint-requires c κs = search needs
@@ -61,7 +61,7 @@ returns : tie.Need-returns
 returns c =
     let arm = c .before .before in
     let g = at-read (arm .before .before) in
-    start-refused _ _ _ _ _ _ _ (c .of-read .ensures)
+    start-refused _ _ _ _ _ _ _ _ (c .of-read .ensures)
     (problem-refused _ _ (g .read-problem .result) _ _ _ _ (g .read-problem .ensures) _ (arm .refusal .given .1))
 
 same-length : tie.Need-same-length
@@ -73,7 +73,7 @@ returns-2 c =
     let fresh = at-fresh save in
     let arm = fresh .before .before in
     let g = at-read (arm .before .before) in
-    start-read _ _ _ _ _
+    start-read _ _ _ _ _ _
     _ (problem-read _ _ (g .read-problem .result) _ _ _ _ (g .read-problem .ensures) _ _ (arm .old-order .given .1))
     _ (save .save-checkpoint .result) _ _ (c .of-save .ensures) (save .save-checkpoint .ensures) (fresh .fresh .ensures)
 
@@ -90,10 +90,10 @@ golfcedar-start-spec =
     of-read-requires
     enum-known-old-order
     fresh-requires
-    slice-aggregate-t31
-    slice-aggregate-t33
-    slice-aggregate-t36
-    slice-aggregate-t38
+    slice-aggregate-t32
+    slice-aggregate-t34
+    slice-aggregate-t37
+    slice-aggregate-t39
     save-checkpoint-requires
     of-save-requires
     returns

@@ -1,15 +1,17 @@
 -- `checkpoint::check_checkpoint` meets its contract: the check of two mappings tests the graphs, then the path and what is held (`ShapeByCheck`).
 -- Assumes nothing.
-use mathlib.Core.Path.{_≡_, sym, ap, _∙_}
-use mathlib.Core.Bool.{Bool, cond}
+use mathlib.Core.Path.{_≡_, refl, sym, ap, _∙_}
+use mathlib.Core.Bool.{Bool, cond, not, _&&_, _||_}
 use native.Mathlib.Omega.{arith}
-use lib.ListN.{length}
+use lib.ListN.{length, take}
 use lib.Seq.{length-take-le}
 use borrow.Author.Needs.{needs}
 use borrow.Author.Tests.{not-true, not-false}
 use Rattle.answers.specs.Answer.{passed, refused}
+use Rattle.problem.specs.Problem.{Problem}
 use Rattle.problem.specs.Lent.{lent}
 use Rattle.mapping.specs.Answers.{mappingsOutcome}
+use Rattle.search_tree.specs.Search.{admitsOf}
 use Rattle.checkpoint.specs.Checking.{checkpointAnswer}
 use Rattle.checkpoint.proofs.FilledPath.{filled-length}
 use Rattle.checkpoint.proofs.ShapeByCheck.{flawed-answer, checked-answer}
@@ -67,29 +69,60 @@ in-shape-requires c κs = search needs
 abbrev at-entry : tie.After-in-shape → tie.Start
 at-entry c = c .before .before .before .before .before .before .before .before .before .before .before .before
 
+-- the problem that is asked about
+abbrev asked : tie.Start → Problem
+asked s = lent (s .args .t1) (s .args .labels) (s .args .t3) (s .args .substitutes .now)
+
+-- whether this search may hold what is held
+abbrev admits : tie.After-in-shape → Bool
+admits c =
+    let s = at-entry c in
+    let rows = c .before .before .before .before .before .before .before .before .before .before .rows .result in
+    not (s .args .checkpoint .holds) || admitsOf (s .args .connected) (asked s) (take rows (s .args .checkpoint .incumbent))
+
 -- once the two lists are checked, the tests decide
-decided : (c : tie.After-in-shape)
-    → checkpointAnswer (lent (at-entry c .args .t1) (at-entry c .args .labels) (at-entry c .args .edges) (at-entry c .args .substitutes .now)) (at-entry c .args .checkpoint)
-    ≡ cond (c .in-shape .result) passed (refused 14)
-decided c =
+decided : (c : tie.After-in-shape) (admitted : Bool) → admitted ≡ admits c
+    → checkpointAnswer (at-entry c .args .connected) (asked (at-entry c)) (at-entry c .args .checkpoint)
+    ≡ cond (c .in-shape .result && admitted) passed (refused 14)
+decided c admitted is =
     let told = c .before .before in
     let call = told .before .before in
     let fill = call .before .before .before .before in
-    checked-answer _ (at-entry c .args .checkpoint) (fill .before .before .rows .result) (fill .filled .result) _ _ (c .in-shape .result)
+    checked-answer _ _ (at-entry c .args .checkpoint) (fill .before .before .rows .result) (fill .filled .result) _ _ (c .in-shape .result) admitted
     (path-long (at-entry c)) (fill .before .before .rows .ensures .1) (fill .filled .ensures)
-    (sym (ap mappingsOutcome (told .reached .given .1)) ∙ call .check-mappings .ensures) (c .in-shape .ensures)
+    (sym (ap mappingsOutcome (told .reached .given .1)) ∙ call .check-mappings .ensures) (c .in-shape .ensures) is
 
 returns : tie.Need-returns
-returns c = sym (decided (c .before) ∙ ap (λ (t : Bool). cond t passed (refused 14)) (not-true (c .before .in-shape .result) (c .if1 .taken)))
+returns c =
+    sym (decided (c .before) _ refl ∙ ap (λ (t : Bool). cond (t && admits (c .before)) passed (refused 14)) (not-true (c .before .in-shape .result) (c .if1 .taken)))
+
+array-copy-out-held-admitted : tie.Need-array-copy-out-held-admitted
+array-copy-out-held-admitted c = search needs
+
+held-admitted-requires : tie.Need-held-admitted-requires
+held-admitted-requires c κs = search needs
+
+-- so does what is asked of the incumbent
+settled : (c : tie.After-held-admitted) (t : Bool) → c .held-admitted .result ≡ t
+    → (let shaped = c .before .before .before in
+    checkpointAnswer (at-entry shaped .args .connected) (asked (at-entry shaped)) (at-entry shaped .args .checkpoint) ≡ cond t passed (refused 14))
+settled c t is =
+    let shaped = c .before .before .before in
+    decided shaped (c .held-admitted .result) (c .held-admitted .ensures)
+    ∙ ap (λ (b : Bool). cond (b && c .held-admitted .result) passed (refused 14)) (not-false (shaped .in-shape .result) (c .before .before .if1 .left))
+    ∙ ap (λ (b : Bool). cond b passed (refused 14)) is
 
 returns-2 : tie.Need-returns-2
-returns-2 c =
-    let call = c .before .before .before in
-    let start = call .before .before .before .before .before .before .before .before in
-    flawed-answer _ (start .args .checkpoint) _ _ _ (sym (ap mappingsOutcome (c .before .flaw .given .1)) ∙ call .check-mappings .ensures)
+returns-2 c = sym (settled (c .before) _ (not-true (c .before .held-admitted .result) (c .if2 .taken)))
 
 returns-3 : tie.Need-returns-3
-returns-3 c = sym (decided (c .before) ∙ ap (λ (t : Bool). cond t passed (refused 14)) (not-false (c .before .in-shape .result) (c .if1 .left)))
+returns-3 c =
+    let call = c .before .before .before in
+    let start = call .before .before .before .before .before .before .before .before in
+    flawed-answer _ _ (start .args .checkpoint) _ _ _ (sym (ap mappingsOutcome (c .before .flaw .given .1)) ∙ call .check-mappings .ensures)
+
+returns-4 : tie.Need-returns-4
+returns-4 c = sym (settled (c .before) _ (not-false (c .before .held-admitted .result) (c .if2 .left)))
 
 pub check-checkpoint-spec : {M : Type 1} → statement M
 check-checkpoint-spec =
@@ -107,5 +140,8 @@ check-checkpoint-spec =
     enum-known-reached
     in-shape-requires
     returns
+    array-copy-out-held-admitted
+    held-admitted-requires
     returns-2
-    returns-3)
+    returns-3
+    returns-4)

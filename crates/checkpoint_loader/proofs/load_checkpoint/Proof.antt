@@ -47,7 +47,7 @@ returns c =
     let check = c .before .before .before .before in
     let s = check .before .before .before in
     c .refuse .ensures
-    ∙ load-flawed (asked s) (s .args .bytes .now) _ (sym (check .check-problem .ensures) ∙ ap problemAnswerOf (c .before .before .flaw .given .1))
+    ∙ load-flawed (s .args .connected) (asked s) (s .args .bytes .now) _ (sym (check .check-problem .ensures) ∙ ap problemAnswerOf (c .before .before .flaw .given .1))
 
 enum-told : tie.Need-enum-told
 enum-told c = search needs
@@ -69,7 +69,7 @@ returns-2 c =
     let fault = c .before .before .before .before in
     let s = at-entry (fault .before) in
     c .refuse2 .ensures
-    ∙ load-malformed (asked s) (s .args .bytes .now) (told-sound (fault .before)) _
+    ∙ load-malformed (s .args .connected) (asked s) (s .args .bytes .now) (told-sound (fault .before)) _
     (sym (fault .find-fault .ensures) ∙ ap faultOf (c .before .before .at .given .1))
 
 enum-told-2 : tie.Need-enum-told-2
@@ -87,15 +87,15 @@ read-formed-requires c κs =
 loaded-if : (c : tie.After-read-formed)
     → let s = at-entry (at-sound (c .before)) in
     let l = c .read-formed .result in
-    (checkpointAnswer (asked s) l ≡ passed → record { answer = passed; checkpoint = l } ≡ loading (asked s) (s .args .bytes .now))
-    × ((m : ℕ) → checkpointAnswer (asked s) l ≡ refused m → refuse (refused m) ≡ loading (asked s) (s .args .bytes .now))
+    (checkpointAnswer (s .args .connected) (asked s) l ≡ passed → record { answer = passed; checkpoint = l } ≡ loading (s .args .connected) (asked s) (s .args .bytes .now))
+    × ((m : ℕ) → checkpointAnswer (s .args .connected) (asked s) l ≡ refused m → refuse (refused m) ≡ loading (s .args .connected) (asked s) (s .args .bytes .now))
 loaded-if c =
     let sound = at-sound (c .before) in
     let s = at-entry sound in
     let l = c .read-formed .result in
     let told = c .read-formed .ensures in (
-      load-passed (asked s) (s .args .bytes .now) (told-sound sound) (told-formed (c .before)) l told,
-      load-refused (asked s) (s .args .bytes .now) (told-sound sound) (told-formed (c .before)) l told,
+      load-passed (s .args .connected) (asked s) (s .args .bytes .now) (told-sound sound) (told-formed (c .before)) l told,
+      load-refused (s .args .connected) (asked s) (s .args .bytes .now) (told-sound sound) (told-formed (c .before)) l told,
     )
 
 check-checkpoint-requires : tie.Need-check-checkpoint-requires

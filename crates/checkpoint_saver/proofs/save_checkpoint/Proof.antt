@@ -20,7 +20,7 @@ asked s = lent (s .args .t1) (s .args .labels) (s .args .edges) (s .args .substi
 abbrev at-entry : tie.After-enum-told2 → tie.Start
 at-entry c = c .before .before .before .before .before
 
-told-passed : (c : tie.After-enum-told2) → checkpointAnswer (asked (at-entry c)) (at-entry c .args .checkpoint) ≡ passed
+told-passed : (c : tie.After-enum-told2) → let s = at-entry c in checkpointAnswer (s .args .connected) (asked s) (s .args .checkpoint) ≡ passed
 told-passed c = sym (c .before .before .check-checkpoint .ensures) ∙ ap shapeAnswer (c .enum-told2 .given .1)
 
 check-checkpoint-requires : tie.Need-check-checkpoint-requires
@@ -41,9 +41,9 @@ array-read-save-in-shape c = search needs
 save-in-shape-requires : tie.Need-save-in-shape-requires
 save-in-shape-requires c κs =
     let s = at-entry (c .before) in
-    let fine = passes-shape (asked s) (s .args .checkpoint) (told-passed (c .before)) in
+    let fine = passes-shape (s .args .connected) (asked s) (s .args .checkpoint) (told-passed (c .before)) in
     let few = fine .0 .old-sound .order-max in
-    let fields = s .good .1 .1 .1 .1 .0 .1 .1 in (
+    let fields = s .good .1 .1 .1 .1 .1 .0 .1 .1 in (
       few,
       omega (arith, few, fine .1 .depth-max),
       simp length-map at (fields .1 .1 .1 .0 .1 .0 .1),

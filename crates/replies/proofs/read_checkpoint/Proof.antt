@@ -18,7 +18,7 @@ asked s = lent (s .args .t1) (s .args .labels) (s .args .edges) (s .args .substi
 
 incumbent-long : (s : tie.Start) → length (s .args .checkpoint .incumbent) ≡ 64
 incumbent-long s =
-    let fields = s .good .1 .1 .1 .1 .0 .1 .1 in
+    let fields = s .good .1 .1 .1 .1 .1 .0 .1 .1 in
     simp length-map at (fields .1 .1 .1 .1 .1 .1 .0 .1 .0 .1)
 
 abbrev at-entry : tie.After-entries-held → tie.Start
@@ -40,7 +40,7 @@ returns : tie.Need-returns
 returns c =
     let held = c .before in
     let s = at-entry held in
-    read-short (asked s) (s .args .checkpoint) (s .args .mapping .now) _ (held .entries-held .ensures) (s .pre) (incumbent-long s) (c .if1 .taken)
+    read-short (s .args .connected) (asked s) (s .args .checkpoint) (s .args .mapping .now) _ (held .entries-held .ensures) (s .pre) (incumbent-long s) (c .if1 .taken)
 
 slice-aggregate-search : tie.Need-slice-aggregate-search
 slice-aggregate-search c = search needs
@@ -66,8 +66,8 @@ put-entries-requires c κs =
 state-byte-requires : tie.Need-state-byte-requires
 state-byte-requires c κs = search needs
 
-cast-t30 : tie.Need-cast-t30
-cast-t30 c = search needs
+cast-t31 : tie.Need-cast-t31
+cast-t31 c = search needs
 
 same-length : tie.Need-same-length
 same-length c = search needs
@@ -79,7 +79,7 @@ returns-2 c =
     let room = at-room call in
     let held = room .before in
     let s = at-entry held in
-    read-numbers (asked s) (s .args .checkpoint) (s .args .mapping .now) _ (held .entries-held .ensures) (s .pre) (incumbent-long s)
+    read-numbers (s .args .connected) (asked s) (s .args .checkpoint) (s .args .mapping .now) _ (held .entries-held .ensures) (s .pre) (incumbent-long s)
     (room .if1 .left) _ _ _ _ (call .search .result) _ (c .state-byte .ensures) (put .put-entries .ensures .0) (put .put-entries .ensures .1)
     (call .search .ensures) (put .before .before .before .search-value .ensures)
 
@@ -96,6 +96,6 @@ read-checkpoint-spec =
     slice-aggregate-put-entries
     put-entries-requires
     state-byte-requires
-    cast-t30
+    cast-t31
     same-length
     returns-2)

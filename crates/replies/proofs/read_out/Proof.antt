@@ -27,7 +27,7 @@ read-checkpoint-requires c κs =
     let arm = c .before in
     let load = at-load arm in
     let s = at-entry load in
-    load-order (asked s) (s .args .bytes .now) (load .load-checkpoint .result) (load .load-checkpoint .ensures) (arm .enum-told .given .1)
+    load-order (s .args .connected) (asked s) (s .args .bytes .now) (load .load-checkpoint .result) (load .load-checkpoint .ensures) (arm .enum-told .given .1)
 
 of-load-requires : tie.Need-of-load-requires
 of-load-requires c κs = search needs
@@ -41,14 +41,14 @@ returns c =
     let arm = read .before .before in
     let load = at-load arm in
     let s = at-entry load in
-    load-read (asked s) (s .args .bytes .now) (load .load-checkpoint .result) (load .load-checkpoint .ensures) (arm .enum-told .given .1)
+    load-read (s .args .connected) (asked s) (s .args .bytes .now) (load .load-checkpoint .result) (load .load-checkpoint .ensures) (arm .enum-told .given .1)
     (s .args .mapping .now) _ (read .read-checkpoint .ensures)
 
 returns-2 : tie.Need-returns-2
 returns-2 c =
     let load = c .before .before .before in
     let s = at-entry load in
-    load-not-read (asked s) (s .args .bytes .now) (load .load-checkpoint .result) (load .load-checkpoint .ensures)
+    load-not-read (s .args .connected) (asked s) (s .args .bytes .now) (load .load-checkpoint .result) (load .load-checkpoint .ensures)
     _ (c .before .match .keys2) (c .of-load .ensures) (s .args .mapping .now)
 
 pub read-out-spec : {M : Type 1} → statement M

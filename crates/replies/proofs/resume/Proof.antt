@@ -40,14 +40,14 @@ returns c =
     let arm = call .before .before .before in
     let load = at-load arm in
     let s = at-entry load in
-    load-searched (asked s) (s .args .bytes .now) (load .load-checkpoint .result) (load .load-checkpoint .ensures) (arm .enum-told .given .1)
+    load-searched (s .args .connected) (asked s) (s .args .bytes .now) (load .load-checkpoint .result) (load .load-checkpoint .ensures) (arm .enum-told .given .1)
     (s .args .budget) (s .args .workspace .now) (s .args .next .now) (call .search-and-save .result) _ _ (call .search-and-save .ensures)
 
 returns-2 : tie.Need-returns-2
 returns-2 c =
     let load = c .before .before .before in
     let s = at-entry load in
-    load-not-searched (asked s) (s .args .bytes .now) (load .load-checkpoint .result) (load .load-checkpoint .ensures)
+    load-not-searched (s .args .connected) (asked s) (s .args .bytes .now) (load .load-checkpoint .result) (load .load-checkpoint .ensures)
     _ (c .before .match .keys2) (c .of-load .ensures) _ _ _
 
 pub resume-spec : {M : Type 1} → statement M

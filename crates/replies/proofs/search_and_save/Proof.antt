@@ -45,7 +45,7 @@ clear-words-requires c κs =
     let call = at-search (arm .before .before) in
     let s = at-entry call in
     let a = s .args in
-    accepted-words (asked s) (a .checkpoint) (a .budget) (a .workspace .now) (a .next .now) (call .search-apart .result)
+    accepted-words (s .args .connected) (asked s) (a .checkpoint) (a .budget) (a .workspace .now) (a .next .now) (call .search-apart .result)
     (call .search-apart .ensures (a .workspace .now) refl) _ (arm .answer .given .1) .0
 
 of-save-requires : tie.Need-of-save-requires
@@ -69,7 +69,7 @@ returns c =
     let call = at-search (arm .before .before) in
     let s = at-entry call in
     let a = s .args in
-    search-saved (asked s) (a .checkpoint) (a .budget) (a .workspace .now) (a .next .now) (call .search-apart .result)
+    search-saved (s .args .connected) (asked s) (a .checkpoint) (a .budget) (a .workspace .now) (a .next .now) (call .search-apart .result)
     (call .search-apart .ensures (a .workspace .now) refl) _ (arm .answer .given .1) (save .save-checkpoint .result) _ (save .save-checkpoint .ensures)
     _ (written .saved .given .1) _ (clear .clear-words .ensures)
 
@@ -84,7 +84,7 @@ returns-2 c =
     let call = at-search (arm .before .before) in
     let s = at-entry call in
     let a = s .args in
-    search-unsaved (asked s) (a .checkpoint) (a .budget) (a .workspace .now) (a .next .now) (call .search-apart .result)
+    search-unsaved (s .args .connected) (asked s) (a .checkpoint) (a .budget) (a .workspace .now) (a .next .now) (call .search-apart .result)
     (call .search-apart .ensures (a .workspace .now) refl) _ (arm .answer .given .1) (save .save-checkpoint .result) _ (save .save-checkpoint .ensures)
     (test .match2 .keys2) _ (c .of-save .ensures)
 
@@ -93,7 +93,7 @@ returns-3 c =
     let call = at-search (c .before .before) in
     let s = at-entry call in
     let a = s .args in
-    search-refused (asked s) (a .checkpoint) (a .budget) (a .workspace .now) (a .next .now) (call .search-apart .result)
+    search-refused (s .args .connected) (asked s) (a .checkpoint) (a .budget) (a .workspace .now) (a .next .now) (call .search-apart .result)
     (call .search-apart .ensures (a .workspace .now) refl) (c .before .match .keys2) _ (c .of-search .ensures)
 
 pub search-and-save-spec : {M : Type 1} → statement M

@@ -27,7 +27,7 @@ use sound.WpLaws.{FmC, fmOf, WpFn-mono}
 use denote.RattleType.{RattleType, owns, flat}
 use denote.Laws.{Is, Are, Ises, Spells, valss, shows}
 use denote.Memory.{mem, cellAt, partAt, partOf}
-use denote.Plain.{uint-vals, uint-tells}
+use denote.Plain.{uint-vals, uint-tells, bool-vals, bool-tells}
 use denote.Array.{array-vals}
 use denote.Builtin.{u8, u16, u64}
 use denote.Ref.{RefT, MutRef}
@@ -62,7 +62,7 @@ use Rattle.checkpoint.proofs.Checkpoint.fresh.Symbol.{name as #checkpoint·fres
 use Rattle.checkpoint.proofs.Checkpoint.fresh.Met as fresh-thm
 use Rattle.resume.specs.Lent.{lentCall}
 use Rattle.resume.proofs.Locals.{arg, frees-at}
-use Rattle.resume.proofs.Parameters.{with-third, fourth, fifth, with-fifth, sixth, seventh, callOf, rows, others, orders-tells, tables-tells, orders-typed, tables-typed, list-typed, token-out, token-in, fifth-out, fifth-in, silent, past-four, after-four}
+use Rattle.resume.proofs.Parameters.{with-third, fourth, sixth, with-sixth, seventh, eighth, callOf, rows, others, orders-tells, tables-tells, orders-typed, tables-typed, list-typed, token-out, token-in, sixth-out, sixth-in, silent, past-five, after-five}
 use Rattle.resume.proofs.Values.{checkpointVal, searchedVal, both-of, checkpoint-typed, answer-typed, searched-typed}
 use Rattle.resume.proofs.resume as resume
 use Rattle.resume.proofs.resume.Symbol as resume-def
@@ -74,10 +74,10 @@ use Rattle.resume.proofs.start.Statement as stated
 use Rattle.resume.proofs.start.Code as code
 
 abbrev stayed : Stays (start.ended .signature .params) (start.ended .kept)
-stayed = (stay-dropped _ _, (stay-dropped _ _, (stay-dropped _ _, (stay-dropped _ _, (stay-dropped _ _, (stay-dropped _ _, (gave-slice (2 ∷ []) tt (plain (λ _. u64)), tt)))))))
+stayed = (stay-dropped _ _, (stay-dropped _ _, (stay-dropped _ _, (stay-dropped _ _, (stay-dropped _ _, (stay-dropped _ _, (stay-dropped _ _, (gave-slice (2 ∷ []) tt (plain (λ _. u64)), tt))))))))
 
 abbrev spells : (κs : Lfts 3) → Spells (typesAt (start.signature .params) κs)
-spells κs = (array-vals (uint-vals w64), (array-vals slice-vals, (array-vals slice-vals, (slice-vals, (uint-vals w8, (uint-vals w64, (slice-vals, tt)))))))
+spells κs = (array-vals (uint-vals w64), (array-vals slice-vals, (array-vals slice-vals, (slice-vals, (bool-vals, (uint-vals w8, (uint-vals w64, (slice-vals, tt))))))))
 
 module _ {M : Type 1} (𝓤 : URA M) (H : Heap 𝓤) (A : Atoms 𝓤) (at-mem : Memory → SProp 𝓤) (run : Routine → Fun 𝓤) where
   -- the contracts that the proof cites
@@ -111,7 +111,7 @@ module _ {M : Type 1} (𝓤 : URA M) (H : Heap 𝓤) (A : Atoms 𝓤) (W : Given
   vals = valss (typesAt (start.signature .params) κs) (spells κs) a
 
   abbrev m : ℕ
-  m = fifth a
+  m = sixth a
 
   abbrev Post : Val → SProp 𝓤
   Post = walkOf 𝓤 H A start.ended stayed (start.clauses 𝓤 H A at-mem run) .post ((κs, qs, tt, a, vals), tt)
@@ -132,73 +132,73 @@ module _ {M : Type 1} (𝓤 : URA M) (H : Heap 𝓤) (A : Atoms 𝓤) (W : Given
 
     -- what `resume`'s triple binds outside: that, and the other parameters as they were passed
     abbrev to-resume : Resume 𝓤 H A at-mem run .Ghost
-    to-resume = ((with-third (ν ∷ []) κs, with-third fullShare qs, tt, with-fifth x a, with-fifth (vptr b 0 ∷ []) vals), tt)
+    to-resume = ((with-third (ν ∷ []) κs, with-third fullShare qs, tt, with-sixth x a, with-sixth (vptr b 0 ∷ []) vals), tt)
 
     goes-resume : ent 𝓤 (⋆ 𝓤 H A (‵ (flft (ν ∷ []) fullShare) ∷ raw (toks 𝓤 A 3 κs qs) ∷ ‵ (R .own x (vptr b 0 ∷ [])) ∷ ‵ (others κs u8 a vals) ∷ [])) (Resume 𝓤 H A at-mem run .pre to-resume)
     goes-resume =
         qed W (‵ (flft (ν ∷ []) fullShare) ∷ raw (toks 𝓤 A 3 κs qs) ∷ ‵ (R .own x (vptr b 0 ∷ [])) ∷ ‵ (others κs u8 a vals) ∷ []) ∵
         use2 W (raw (toks 𝓤 A 4 (with-third (ν ∷ []) κs) (with-third fullShare qs))) (token-in 𝓤 H A W (with-third (ν ∷ []) κs) (with-third fullShare qs)) $ move ! (1 ∷ 2 ∷ []) $ fjoin ! $
-        use1 W (‵ (owns (rows κs R) (to-resume .0 .3) (to-resume .0 .4))) (fifth-in 𝓤 H A W κs u8 a vals R x (vptr b 0 ∷ [])) $ move ! (1 ∷ 0 ∷ []) $ join ! $ nothing ! $ move ! (1 ∷ 0 ∷ []) $ done !
+        use1 W (‵ (owns (rows κs R) (to-resume .0 .3) (to-resume .0 .4))) (sixth-in 𝓤 H A W κs u8 a vals R x (vptr b 0 ∷ [])) $ move ! (1 ∷ 0 ∷ []) $ join ! $ nothing ! $ move ! (1 ∷ 0 ∷ []) $ done !
 
-  exits : (r : Searched) (zs : List ℕ) → calledOf r zs ≡ callOf a (freshCheckpoint m) → length zs ≡ length (seventh a .now) → Is S.the-row r (searchedVal r ∷ [])
-      → ent 𝓤 (sep 𝓤 (toks 𝓤 A 3 κs qs) (sem 𝓤 H A (finally u64 (seventh a .name) zs))) (Post (searchedVal r))
+  exits : (r : Searched) (zs : List ℕ) → calledOf r zs ≡ callOf a (freshCheckpoint m) → length zs ≡ length (eighth a .now) → Is S.the-row r (searchedVal r ∷ [])
+      → ent 𝓤 (sep 𝓤 (toks 𝓤 A 3 κs qs) (sem 𝓤 H A (finally u64 (eighth a .name) zs))) (Post (searchedVal r))
   exits r zs e l is =
-      qed W (raw (toks 𝓤 A 3 κs qs) ∷ ‵ (finally u64 (seventh a .name) zs) ∷ []) ∵
-      suffices ! _ (ends-at 𝓤 H A start.ended stayed (start.clauses 𝓤 H A at-mem run) W ((κs, qs, tt, a, vals), tt) _ r (tt, (tt, (tt, (tt, (tt, (tt, (zs, tt))))))) (tt, (tt, (tt, (tt, (tt, (tt, (l, tt)))))))) $ says ! e $ frame ! $
-      nothing ! $ move ! (1 ∷ 0 ∷ []) $ fjoin ! $ nothing ! $ fjoin ! $ nothing ! $ fjoin ! $ after-four ! $ frame ! $ owned ! S.the-row (Is S.the-row) (LL.makes S.the-type S′.the-plain 𝓤 H A) r _ is $ done !
+      qed W (raw (toks 𝓤 A 3 κs qs) ∷ ‵ (finally u64 (eighth a .name) zs) ∷ []) ∵
+      suffices ! _ (ends-at 𝓤 H A start.ended stayed (start.clauses 𝓤 H A at-mem run) W ((κs, qs, tt, a, vals), tt) _ r (tt, (tt, (tt, (tt, (tt, (tt, (tt, (zs, tt)))))))) (tt, (tt, (tt, (tt, (tt, (tt, (tt, (l, tt))))))))) $ says ! e $ frame ! $
+      nothing ! $ move ! (1 ∷ 0 ∷ []) $ fjoin ! $ nothing ! $ fjoin ! $ nothing ! $ fjoin ! $ after-five ! $ frame ! $ owned ! S.the-row (Is S.the-row) (LL.makes S.the-type S′.the-plain 𝓤 H A) r _ is $ done !
 
   module _ (𝓒 : Calls 𝓤 H) (Λ : Loops 𝓤 H) (fm : FmC 𝓤 H (W .laws) 𝓒) (known-fresh : Triple 𝓤 (𝓒 #checkpoint·fresh) (Fresh 𝓤 H A at-mem run)) (known : Triple 𝓤 (𝓒 #resume·resume) (Resume 𝓤 H A at-mem run)) where
     walk : Are (typesAt (start.signature .params) κs) (Ises (typesAt (start.signature .params) κs)) a vals → ent 𝓤 (onEntry 𝓤 H A start.signature κs qs a vals) (WpFn 𝓤 H 𝓒 Λ code.function (flat (typesAt (start.signature .params) κs) vals) Post)
     walk are =
-        qed W (raw (toks 𝓤 A 3 κs qs) ∷ ‵ (owns (rows κs u8) a vals) ∷ []) ∵ move ! (1 ∷ []) $ use1 W (‵ (fsep (u8 .own m (uint-vals w8 m)) (others κs u8 a vals))) (fifth-out 𝓤 H A W κs u8 a vals) $ fsplit ! $
+        qed W (raw (toks 𝓤 A 3 κs qs) ∷ ‵ (owns (rows κs u8) a vals) ∷ []) ∵ move ! (1 ∷ []) $ use1 W (‵ (fsep (u8 .own m (uint-vals w8 m)) (others κs u8 a vals))) (sixth-out 𝓤 H A W κs u8 a vals) $ fsplit ! $
         enter ! 𝓒 Λ code.function (flat (typesAt (start.signature .params) κs) vals) _ $
-        alloc1 ! (λ l₀. alloc1 ! (λ l₁. alloc1 ! (λ l₂. alloc1 ! (λ l₃. alloc1 ! (λ l₄. alloc1 ! (λ l₅. alloc1 ! (λ l₆. alloc1 ! (λ l₇. alloc1 ! (λ l₈. alloc1 ! (λ l₉. alloc1 ! (λ l₁₀. alloc1 ! (λ l₁₁. alloc1 ! (λ l₁₂. alloc1 ! (λ l₁₃. alloc1 ! (λ l₁₄. alloc1 ! (λ l₁₅. alloc0 ! $ params1 ! $
-        pass1 ! (init ! 28 refl (orders-typed 𝓤 H A W (a .0) _ (are .0))) $ pass1 ! (init ! 26 refl (tables-typed 𝓤 H A W u16 (named 0) (κs .0) (a .1 .0) _ (are .1 .0))) $ pass1 ! (init ! 24 refl (tables-typed 𝓤 H A W u8 (named 0) (κs .0) (a .1 .1 .0) _ (are .1 .1 .0))) $
-        pass1 ! (init ! 22 refl (list-typed 𝓤 H A W (named 1) (κs .1 .0) (fourth a) _ (fourth are))) $
-        pass1 ! (init ! 20 refl (tt, record { fits = fifth are .1 })) $ pass1 ! (init ! 18 refl (tt, record { fits = sixth are .1 })) $ pass1 ! (init ! 16 refl (tt, (tt, (record { fits = seventh are .0 .1 .0 }, tt)))) $ pass0 ! $
-        -- [_15; …; _14; …; and so on to _1; …; room for _0; …; what the minimum owns; what the other parameters own; the tokens]
-        move ! (32 ∷ []) $ use1 W (raw (Fresh 𝓤 H A at-mem run .pre to-fresh)) goes-fresh $ calls-at ! fm (Fresh 𝓤 H A at-mem run) known-fresh to-fresh (arg ! 21 refl (no-more !)) (λ w₀.
+        alloc1 ! (λ l₀. alloc1 ! (λ l₁. alloc1 ! (λ l₂. alloc1 ! (λ l₃. alloc1 ! (λ l₄. alloc1 ! (λ l₅. alloc1 ! (λ l₆. alloc1 ! (λ l₇. alloc1 ! (λ l₈. alloc1 ! (λ l₉. alloc1 ! (λ l₁₀. alloc1 ! (λ l₁₁. alloc1 ! (λ l₁₂. alloc1 ! (λ l₁₃. alloc1 ! (λ l₁₄. alloc1 ! (λ l₁₅. alloc1 ! (λ l₁₆. alloc0 ! $ params1 ! $
+        pass1 ! (init ! 30 refl (orders-typed 𝓤 H A W (a .0) _ (are .0))) $ pass1 ! (init ! 28 refl (tables-typed 𝓤 H A W u16 (named 0) (κs .0) (a .1 .0) _ (are .1 .0))) $ pass1 ! (init ! 26 refl (tables-typed 𝓤 H A W u8 (named 0) (κs .0) (a .1 .1 .0) _ (are .1 .1 .0))) $
+        pass1 ! (init ! 24 refl (list-typed 𝓤 H A W (named 1) (κs .1 .0) (fourth a) _ (fourth are))) $
+        pass1 ! (init ! 22 refl (tt, tt)) $ pass1 ! (init ! 20 refl (tt, record { fits = sixth are .1 })) $ pass1 ! (init ! 18 refl (tt, record { fits = seventh are .1 })) $ pass1 ! (init ! 16 refl (tt, (tt, (record { fits = eighth are .0 .1 .0 }, tt)))) $ pass0 ! $
+        -- [_16; …; _15; …; and so on to _1; …; room for _0; …; what the minimum owns; what the other parameters own; the tokens]
+        move ! (34 ∷ []) $ use1 W (raw (Fresh 𝓤 H A at-mem run .pre to-fresh)) goes-fresh $ calls-at ! fm (Fresh 𝓤 H A at-mem run) known-fresh to-fresh (arg ! 21 refl (no-more !)) (λ w₀.
         use1 W (later (some (λ (f : Checkpoint). (‵ ftrue ⊛ ‵ (C.the-row .own f (w₀ ∷ []))) ⊛ raw (ensured 𝓤 H A fresh.ended (fresh.clauses 𝓤 H A at-mem run) tt (m, tt) tt f)))) (id⊢ 𝓤 _) $ await ! tt $ pick ! (λ f.
         split ! $ move ! (1 ∷ []) $ use1 W (raw (fact 𝓤 (f ≡ freshCheckpoint m))) (fresh-of 𝓤 H A at-mem run m f) $ heard ! (f ≡ freshCheckpoint m) (λ e₀. split ! $ drop ! $ peeks ! C.the-row (Is C.the-row) (shows 𝓤 H A C.the-row) f (w₀ ∷ []) (λ is₀.
         land ! (from ! (stop !)) (init ! 11 refl (checkpoint-typed 𝓤 H A W f _ is₀)) $ assigns ! (of-opd ! (load ! (from ! (stop !)) (look ! 11 refl))) (from ! (stop !)) (init ! 15 refl (checkpoint-typed 𝓤 H A W f _ is₀)) $
-        assigns ! (of-opd ! (load ! (from ! (stop !)) (look ! 27 refl))) (from ! (stop !)) (init ! 9 refl (tables-typed 𝓤 H A W u16 erased (κs .0) (a .1 .0) _ (are .1 .0))) $
-        assigns ! (of-opd ! (load ! (from ! (stop !)) (look ! 25 refl))) (from ! (stop !)) (init ! 7 refl (tables-typed 𝓤 H A W u8 erased (κs .0) (a .1 .1 .0) _ (are .1 .1 .0))) $
-        -- the local _8 is lent for a lifetime ν of the call
-        lft-new ! tt (λ ν. move ! (16 ∷ 1 ∷ []) $ use2 W (later (some (λ (γ : GName). ‵ (R f l₈ ν γ .own (x f l₈ ν γ) (vptr l₈ 0 ∷ [])) ⊛ ‵ (flent (ν ∷ []) (Body (mem C.the-row) l₈ 0 γ))))) (lends 𝓤 H A W (ν ∷ []) l₈ f w₀) $ await ! tt $ pick ! (λ γ. split ! $
-        -- [what the reference owns; the lender's part; the token of ν; _15; …; and so on to _9; …; …; _7; …; and so on to room for _0; …; what the other parameters own; the tokens]
+        assigns ! (of-opd ! (load ! (from ! (stop !)) (look ! 29 refl))) (from ! (stop !)) (init ! 9 refl (tables-typed 𝓤 H A W u16 erased (κs .0) (a .1 .0) _ (are .1 .0))) $
+        assigns ! (of-opd ! (load ! (from ! (stop !)) (look ! 27 refl))) (from ! (stop !)) (init ! 7 refl (tables-typed 𝓤 H A W u8 erased (κs .0) (a .1 .1 .0) _ (are .1 .1 .0))) $
+        -- the local _9 is lent for a lifetime ν of the call
+        lft-new ! tt (λ ν. move ! (16 ∷ 1 ∷ []) $ use2 W (later (some (λ (γ : GName). ‵ (R f l₉ ν γ .own (x f l₉ ν γ) (vptr l₉ 0 ∷ [])) ⊛ ‵ (flent (ν ∷ []) (Body (mem C.the-row) l₉ 0 γ))))) (lends 𝓤 H A W (ν ∷ []) l₉ f w₀) $ await ! tt $ pick ! (λ γ. split ! $
+        -- [what the reference owns; the lender's part; the token of ν; _16; …; and so on to _10; …; …; _8; …; and so on to room for _0; …; what the other parameters own; the tokens]
         assigns ! (addr ! (from ! (stop !))) (from ! (stop !)) (init ! 7 refl (tt, tt)) $
         assigns ! (addr ! (from ! (fld ! refl (hop ! (look-in ! 18 (sub ! 0 refl (whole !))) (stop !))))) (from ! (stop !)) (init ! 5 refl (tt, tt)) $
-        assigns ! (agg ! (arg ! 5 refl (and-then ! (load ! (from ! (fld ! refl (stop !))) (look-in ! 18 (sub ! 1 refl (whole !)))) (no-more !)))) (from ! (stop !)) (init ! 3 refl (tt, (tt, (record { fits = seventh are .0 .1 .0 }, tt)))) $
-        move ! (2 ∷ 35 ∷ 0 ∷ 34 ∷ []) $ group ! 4 $ use1 W (raw (Resume 𝓤 H A at-mem run .pre (to-resume f l₈ ν γ))) (goes-resume f l₈ ν γ) $
-        calls-at ! fm (Resume 𝓤 H A at-mem run) known (to-resume f l₈ ν γ) (arg ! 29 refl (arg ! 10 refl (arg ! 8 refl (arg ! 23 refl (arg ! 6 refl (arg ! 19 refl (arg ! 2 refl (no-more !)))))))) (λ w.
-        use1 W (later (some (λ (r : SearchAnswer). (raw (toks 𝓤 A 4 (with-third (ν ∷ []) κs) (with-third fullShare qs)) ⊛ ‵ (N.the-row .own r (w ∷ []))) ⊛ raw (ensured 𝓤 H A resume.ended (resume.clauses 𝓤 H A at-mem run) (with-third (ν ∷ []) κs) (to-resume f l₈ ν γ .0 .3) tt r)))) (id⊢ 𝓤 _) $ await ! tt $ pick ! (λ r.
+        assigns ! (agg ! (arg ! 5 refl (and-then ! (load ! (from ! (fld ! refl (stop !))) (look-in ! 18 (sub ! 1 refl (whole !)))) (no-more !)))) (from ! (stop !)) (init ! 3 refl (tt, (tt, (record { fits = eighth are .0 .1 .0 }, tt)))) $
+        move ! (2 ∷ 37 ∷ 0 ∷ 36 ∷ []) $ group ! 4 $ use1 W (raw (Resume 𝓤 H A at-mem run .pre (to-resume f l₉ ν γ))) (goes-resume f l₉ ν γ) $
+        calls-at ! fm (Resume 𝓤 H A at-mem run) known (to-resume f l₉ ν γ) (arg ! 31 refl (arg ! 10 refl (arg ! 8 refl (arg ! 25 refl (arg ! 23 refl (arg ! 6 refl (arg ! 19 refl (arg ! 2 refl (no-more !))))))))) (λ w.
+        use1 W (later (some (λ (r : SearchAnswer). (raw (toks 𝓤 A 4 (with-third (ν ∷ []) κs) (with-third fullShare qs)) ⊛ ‵ (N.the-row .own r (w ∷ []))) ⊛ raw (ensured 𝓤 H A resume.ended (resume.clauses 𝓤 H A at-mem run) (with-third (ν ∷ []) κs) (to-resume f l₉ ν γ .0 .3) tt r)))) (id⊢ 𝓤 _) $ await ! tt $ pick ! (λ r.
         -- what `resume` ensures, at some last checkpoint and list
-        split ! $ move ! (1 ∷ []) $ use1 W (some (λ (ws : Lasts resume.ended (with-third (ν ∷ []) κs) (to-resume f l₈ ν γ .0 .3)). ‵ (lasts resume.ended (with-third (ν ∷ []) κs) (to-resume f l₈ ν γ .0 .3) ws) ⊛ raw (fact 𝓤 (lentCall r (fifth ws) (seventh ws) ≡ callOf a f)))) (id⊢ 𝓤 _) $ pick ! (λ ws.
-        let c : Checkpoint = fifth ws in let r′ : Searched = record { answer = r; checkpoint = c } in
-        split ! $ move ! (1 ∷ []) $ heard ! (lentCall r c (seventh ws) ≡ callOf a f) (λ e. past-four ! $ fsplit ! $ move ! (1 ∷ []) $ fsplit ! $ drop ! $ fsplit ! $ fsplit ! $ move ! (1 ∷ []) $ feqL ! (λ l.
+        split ! $ move ! (1 ∷ []) $ use1 W (some (λ (ws : Lasts resume.ended (with-third (ν ∷ []) κs) (to-resume f l₉ ν γ .0 .3)). ‵ (lasts resume.ended (with-third (ν ∷ []) κs) (to-resume f l₉ ν γ .0 .3) ws) ⊛ raw (fact 𝓤 (lentCall r (sixth ws) (eighth ws) ≡ callOf a f)))) (id⊢ 𝓤 _) $ pick ! (λ ws.
+        let c : Checkpoint = sixth ws in let r′ : Searched = record { answer = r; checkpoint = c } in
+        split ! $ move ! (1 ∷ []) $ heard ! (lentCall r c (eighth ws) ≡ callOf a f) (λ e. past-five ! $ fsplit ! $ move ! (1 ∷ []) $ fsplit ! $ drop ! $ fsplit ! $ fsplit ! $ move ! (1 ∷ []) $ feqL ! (λ l.
         move ! (3 ∷ []) $ split ! $ move ! (1 ∷ []) $ peeks ! N.the-row (Is N.the-row) (shows 𝓤 H A N.the-row) r (w ∷ []) (λ is.
-        -- [what the answer owns; the tokens; the last list; …; the last checkpoint; the lender's part; _15; …; …]
-        land ! (from ! (stop !)) (init ! 18 refl (answer-typed 𝓤 H A W r _ is)) $ rewrite ! 18 (λ (u : Val). ‵ (fat fullShare N′.mir l₉ 0 u)) (ap only (EL.tells N.the-type N′.the-laws r _ is)) refl $
+        -- [what the answer owns; the tokens; the last list; …; the last checkpoint; the lender's part; _16; …; …]
+        land ! (from ! (stop !)) (init ! 18 refl (answer-typed 𝓤 H A W r _ is)) $ rewrite ! 18 (λ (u : Val). ‵ (fat fullShare N′.mir l₁₀ 0 u)) (ap only (EL.tells N.the-type N′.the-laws r _ is)) refl $
         -- the lifetime is ended, and the local comes back
         move ! (1 ∷ []) $ use1 W (‵ (flft (ν ∷ []) fullShare) ⊛ raw (toks 𝓤 A 3 κs qs)) (token-out 𝓤 H A W (with-third (ν ∷ []) κs) (with-third fullShare qs)) $ split ! $ lft-end ! tt $ move ! (0 ∷ 6 ∷ 5 ∷ []) $
-        use3 W (later (‵ (fat fullShare C′.mir l₈ 0 (checkpointVal c)) ⊛ ‵ (C.the-row .own c (checkpointVal c ∷ [])))) (comes-back 𝓤 H A W (ν ∷ []) l₈ γ c) $ await ! tt $ split ! $
+        use3 W (later (‵ (fat fullShare C′.mir l₉ 0 (checkpointVal c)) ⊛ ‵ (C.the-row .own c (checkpointVal c ∷ [])))) (comes-back 𝓤 H A W (ν ∷ []) l₉ γ c) $ await ! tt $ split ! $
         move ! (1 ∷ []) $ peeks ! C.the-row (Is C.the-row) (shows 𝓤 H A C.the-row) c (checkpointVal c ∷ []) (λ is′.
-        -- [what the checkpoint owns; _8; the tokens; what the answer owns; the last list; …; _15; …; …]
+        -- [what the checkpoint owns; _9; the tokens; what the answer owns; the last list; …; _16; …; …]
         assigns ! (of-opd ! (load ! (from ! (stop !)) (look ! 1 refl))) (from ! (stop !)) (store ! 16 refl (checkpoint-typed 𝓤 H A W c _ is′)) $
-        assigns ! (agg ! (arg ! 18 refl (arg ! 16 refl (no-more !)))) (from ! (stop !)) (init ! 35 refl (searched-typed 𝓤 H A W r′ _ (both-of r′ _ is is′))) $
-        returns ! (look ! 35 refl) $ frees-at ! 35 refl refl $ frees-at ! 33 refl refl $ frees-at ! 31 refl refl $ frees-at ! 29 refl refl $ frees-at ! 27 refl refl $ frees-at ! 25 refl refl $ frees-at ! 23 refl refl $ frees-at ! 21 refl refl $
+        assigns ! (agg ! (arg ! 18 refl (arg ! 16 refl (no-more !)))) (from ! (stop !)) (init ! 37 refl (searched-typed 𝓤 H A W r′ _ (both-of r′ _ is is′))) $
+        returns ! (look ! 37 refl) $ frees-at ! 37 refl refl $ frees-at ! 35 refl refl $ frees-at ! 33 refl refl $ frees-at ! 31 refl refl $ frees-at ! 29 refl refl $ frees-at ! 27 refl refl $ frees-at ! 25 refl refl $ frees-at ! 23 refl refl $ frees-at ! 21 refl refl $
         move ! (1 ∷ 20 ∷ []) $ frees-at ! 0 refl refl $ frees-at ! 17 refl refl $ frees-at ! 15 refl refl $ frees-at ! 13 refl refl $ frees-at ! 11 refl refl $ frees-at ! 9 refl refl $ frees-at ! 7 refl refl $ frees-at ! 5 refl refl $ free0 ! $
-        keep ! (1 ∷ 3 ∷ []) $ by ! (exits r′ (seventh ws) (e ∙ ap (callOf a) e₀) l (both-of r′ _ is is′)))))))))))))))))))))))))))))))
+        keep ! (1 ∷ 3 ∷ []) $ by ! (exits r′ (eighth ws) (e ∙ ap (callOf a) e₀) l (both-of r′ _ is is′))))))))))))))))))))))))))))))))
 
 module _ {M : Type 1} (𝓤 : URA M) (H : Heap 𝓤) (A : Atoms 𝓤) (W : Given 𝓤 H A) (at-mem : Memory → SProp 𝓤) (run : Routine → Fun 𝓤) where
   start-walks : (𝓒 : Calls 𝓤 H) (Λ : Loops 𝓤 H) → FmC 𝓤 H (W .laws) 𝓒 → Triple 𝓤 (𝓒 #checkpoint·fresh) (Fresh 𝓤 H A at-mem run) → Triple 𝓤 (𝓒 #resume·resume) (Resume 𝓤 H A at-mem run) → Walks 𝓤 H A start.ended stayed (WpFn 𝓤 H 𝓒 Λ code.function) (start.clauses 𝓤 H A at-mem run)
   start-walks 𝓒 Λ fm known-fresh known = walked 𝓤 H A start.ended stayed (start.clauses 𝓤 H A at-mem run) (WpFn 𝓤 H 𝓒 Λ code.function) spells
-      (λ κs. (orders-tells, (tables-tells u16 (named 0) (κs .0), (tables-tells u8 (named 0) (κs .0), (shr-slice-tells (named 1) (κs .1 .0) u8, (uint-tells w8, (uint-tells w64, (λ x vs p. p .0 .0, tt))))))))
+      (λ κs. (orders-tells, (tables-tells u16 (named 0) (κs .0), (tables-tells u8 (named 0) (κs .0), (shr-slice-tells (named 1) (κs .1 .0) u8, (bool-tells, (uint-tells w8, (uint-tells w64, (λ x vs p. p .0 .0, tt)))))))))
       (λ κs qs bounds a g are. via 𝓤 _ (fst∗ 𝓤 _ (emp 𝓤)) (walk 𝓤 H A W at-mem run κs qs a 𝓒 Λ fm known-fresh known are))
 
   start-meets : (𝓣 : Tables 𝓤 H) → Triple 𝓤 (𝓣 .C #checkpoint·fresh) (Fresh 𝓤 H A at-mem run) → Triple 𝓤 (𝓣 .C #resume·resume) (Resume 𝓤 H A at-mem run) → Meets 𝓤 H A start.signature (WpFn 𝓤 H (𝓣 .C) (𝓣 .Λ) code.function) (start.spec 𝓤 H A at-mem run)
   start-meets 𝓣 known-fresh known = walk-meets 𝓤 H A start.ended stayed W
-      (λ _ _ _ _ _. silent 𝓤 H A W, (λ _ _ _ _ _. silent 𝓤 H A W, (λ _ _ _ _ _. silent 𝓤 H A W, (λ _ _ _ _ _. silent 𝓤 H A W, (λ _ _ _ _ _. silent 𝓤 H A W, (λ _ _ _ _ _. silent 𝓤 H A W, (goes-gave-slice 𝓤 H A W 3 2 tt (plain (λ _. u64)), tt)))))))
+      (λ _ _ _ _ _. silent 𝓤 H A W, (λ _ _ _ _ _. silent 𝓤 H A W, (λ _ _ _ _ _. silent 𝓤 H A W, (λ _ _ _ _ _. silent 𝓤 H A W, (λ _ _ _ _ _. silent 𝓤 H A W, (λ _ _ _ _ _. silent 𝓤 H A W, (λ _ _ _ _ _. silent 𝓤 H A W, (goes-gave-slice 𝓤 H A W 3 2 tt (plain (λ _. u64)), tt))))))))
       (start.clauses 𝓤 H A at-mem run) (WpFn 𝓤 H (𝓣 .C) (𝓣 .Λ) code.function) (WpFn-mono 𝓤 H (W .laws) 𝓣 code.function) (start-walks (𝓣 .C) (𝓣 .Λ) (fmOf 𝓤 H (W .laws) 𝓣) known-fresh known)
 
 pub start-spec : {M : Type 1} → stated.statement M

@@ -35,11 +35,14 @@ at-masks c = at-allowed c .before .before
 abbrev at-root : tie.After-all-first → tie.After-root-words
 at-root c = c .before .before .before
 
+abbrev at-near : tie.After-start → tie.After-neighbours-for
+at-near c = c .before .before .before .before .before
+
 abbrev at-later : tie.After-start → tie.After-all-first
-at-later c = c .before .before .before .before .before
+at-later c = at-near c .before
 
 abbrev at-start : tie.After-run → tie.After-start
-at-start c = c .before .before .before .before .before .before .before
+at-start c = c .before .before .before .before .before .before .before .before
 
 abbrev at-run : tie.After-ceiling → tie.After-run
 at-run c = c .before .before .before .before .before .before
@@ -49,9 +52,9 @@ abbrev begin : tie.After-start → tie.Start
 begin c = at-entry (at-masks (at-root (at-later c)))
 
 -- what the call starts from; that its arrays have 64 bytes comes with the checkpoint's type
-given : (s : tie.Start) → Accepted (asked s) (s .args .checkpoint)
+given : (s : tie.Start) → Accepted (s .args .connected) (asked s) (s .args .checkpoint)
 given s =
-    let fields = s .good .1 .1 .1 .1 .0 .1 .1 in record {
+    let fields = s .good .1 .1 .1 .1 .1 .0 .1 .1 in record {
       sound = s .pre .0;
       shape = s .pre .1 .0;
       path-long = simp length-map at (fields .1 .1 .1 .0 .1 .0 .1);
@@ -96,8 +99,11 @@ all-first-requires c κs =
     let old-sound = at-entry (at-masks (c .before .before)) .pre .0 .old-sound in
     (old-sound .edges-length, old-sound .order-max)
 
+neighbours-for-requires : tie.Need-neighbours-for-requires
+neighbours-for-requires c κs = search needs
+
 slice-aggregate-start : tie.Need-slice-aggregate-start
-slice-aggregate-start c = sym (at-masks (at-root (c .before)) .fill-masks .ensures .words)
+slice-aggregate-start c = sym (at-masks (at-root (c .before .before)) .fill-masks .ensures .words)
 
 -- the workspace keeps its length
 root-whole : (c : tie.After-root-words) → length (c .root-words .last .1 .1 .0) ≡ 4160
@@ -105,7 +111,7 @@ root-whole c = c .root-words .kept .1 .1 .0 ∙ at-entry (at-masks c) .pre .1 .1
 
 start-requires : tie.Need-start-requires
 start-requires c κs =
-    let later = c .before .before .before .before in
+    let later = c .before .before .before .before .before in
     let masks = at-masks (at-root later) in
     let g = given (at-entry masks) in (
       call-bounds g (masks .fill-masks .ensures) (later .all-first .ensures) (omega (arith, root-whole (at-root later))),
@@ -114,11 +120,11 @@ start-requires c κs =
 
 -- the walk at its start is ready for a visit
 started : (c : tie.After-start)
-    → let s = begin c in Starts (asked s) (s .args .checkpoint) (c .start .result) (c .start .last .1 .1 .1 .1 .1 .1 .0)
+    → let s = begin c in Starts (s .args .connected) (asked s) (s .args .checkpoint) (c .start .result) (c .start .last .1 .1 .1 .1 .1 .1 .0)
 started c =
     let root = at-root (at-later c) in
     let s = begin c in
-    c .start .ensures .0 (asked s) (setting (at-masks root)) (s .pre .1 .0)
+    c .start .ensures .0 (s .args .connected) (asked s) (setting (at-masks root)) (s .pre .1 .0)
     (root-words (asked s) (s .pre .0)
     (root .root-words .ensures (asked s) refl (allowing-allowed (s .args .t1) (s .args .labels) (s .args .t3) (s .args .substitutes .now) (s .pre .0) (at-allowed root .allowed-sets .ensures))) (s .args .checkpoint .path))
 
@@ -127,7 +133,7 @@ slice-aggregate-run c = sym (at-masks (at-root (at-later (c .before .before .bef
 
 run-requires : tie.Need-run-requires
 run-requires c κs =
-    let start = c .before .before .before .before .before .before in
+    let start = c .before .before .before .before .before .before .before in
     let later = at-later start in
     let s = begin start in (
       rw (started start .checkpoint-is) (start-count (s .args .checkpoint) (s .args .budget) (s .pre .1 .1 .1)),
@@ -138,13 +144,14 @@ run-requires c κs =
         ready = started start .ready;
       },
       rw (started start .checkpoint-is) (start .start .ensures .1),
+      at-near start .neighbours-for .ensures,
     )
 
 -- the visits are made
 made : (c : tie.After-run)
     → let start = at-start c in let s = begin start in let k = start .start .result .checkpoint in
-    Arrives (asked s) (k .minimum) (visits (searchOf (asked s)) (k .minimum) (s .args .budget) (stateOf (asked s .old .order) k)) (c .run .result)
-    (c .run .last .1 .1 .1 .1 .1 .1 .1 .0)
+    Arrives (s .args .connected) (asked s) (k .minimum) (visits (searchOf (s .args .connected) (asked s)) (k .minimum) (s .args .budget) (stateOf (asked s .old .order) k)) (c .run .result)
+    (c .run .last .1 .1 .1 .1 .1 .1 .1 .1 .1 .0)
 made c =
     let start = at-start c in
     c .run .ensures (asked (begin start)) (setting (at-masks (at-root (at-later start)))) (started start .ready)
@@ -162,7 +169,7 @@ ceiling-whole : (c : tie.After-ceiling) → length (c .ceiling .last .1 .1 .1 .1
 ceiling-whole c =
     let run = at-run c in
     let start = at-start run in
-    c .ceiling .kept .1 .1 .1 .1 .0 ∙ run .run .kept .1 .1 .1 .1 .1 .1 .1 .0 ∙ start .start .kept .1 .1 .1 .1 .1 .1 .0 ∙ root-whole (at-root (at-later start))
+    c .ceiling .kept .1 .1 .1 .1 .0 ∙ run .run .kept .1 .1 .1 .1 .1 .1 .1 .1 .1 .0 ∙ start .start .kept .1 .1 .1 .1 .1 .1 .0 ∙ root-whole (at-root (at-later start))
 
 clear-words-requires : tie.Need-clear-words-requires
 clear-words-requires c κs = omega (arith, ceiling-whole (c .before .before .before))
@@ -180,7 +187,7 @@ returns c =
     let masks = at-masks (at-root (at-later start)) in
     let s = at-entry masks in
     call-arrives (given s) (s .args .budget) (top .ceiling .result) (s .args .workspace .now) (top .ceiling .last .1 .1 .1 .1 .0) (setting masks)
-    (started start .checkpoint-is) (started start .ready) (made run) (top .ceiling .ensures (asked s) (setting masks) (made run .ready))
+    (started start .checkpoint-is) (started start .ready) (made run) (top .ceiling .ensures (s .args .connected) (asked s) (setting masks) (made run .ready))
     (s .pre .1 .1 .0) (ceiling-whole top) (c .before .before .before .clear-words .ensures)
 
 pub advance-spec : {M : Type 1} → statement M
@@ -196,6 +203,7 @@ advance-spec =
     allowed-sets-requires
     root-words-requires
     all-first-requires
+    neighbours-for-requires
     slice-aggregate-start
     start-requires
     slice-aggregate-run

@@ -30,7 +30,7 @@ abbrev at-told : tie.Else2 → tie.After-enum-told2
 at-told c = c .before .before .before
 
 -- what the tests said: the graphs are sound and the checkpoint is in shape, and the steps count
-told-passed : (c : tie.After-enum-told2) → let s = at-entry c in checkpointAnswer (asked s) (s .args .checkpoint) ≡ passed
+told-passed : (c : tie.After-enum-told2) → let s = at-entry c in checkpointAnswer (s .args .connected) (asked s) (s .args .checkpoint) ≡ passed
 told-passed c = sym (c .before .before .check-checkpoint .ensures) ∙ ap shapeAnswer (c .enum-told2 .given .1)
 
 told-count : (c : tie.Else2) → let a = at-entry (at-told c) .args in countFits (a .checkpoint) (a .budget) ≡ true
@@ -52,7 +52,7 @@ returns : tie.Need-returns
 returns c =
     let s = at-entry (c .before) in
     let a = s .args in
-    call-words (asked s) (a .checkpoint) (a .budget) (a .workspace .now) (told-passed (c .before)) (c .if1 .taken)
+    call-words (a .connected) (asked s) (a .checkpoint) (a .budget) (a .workspace .now) (told-passed (c .before)) (c .if1 .taken)
 
 count-fits-requires : tie.Need-count-fits-requires
 count-fits-requires c κs = search needs
@@ -62,7 +62,7 @@ returns-2 c =
     let told = c .before .before .before in
     let s = at-entry told in
     let a = s .args in
-    call-count (asked s) (a .checkpoint) (a .budget) (a .workspace .now) (told-passed told) (c .before .before .if1 .left)
+    call-count (a .connected) (asked s) (a .checkpoint) (a .budget) (a .workspace .now) (told-passed told) (c .before .before .if1 .left)
     (sym (c .before .count-fits .ensures) ∙ not-true (c .before .count-fits .result) (c .if2 .taken))
 
 slice-relend-prefix-advance : tie.Need-slice-relend-prefix-advance
@@ -76,7 +76,7 @@ advance-requires : tie.Need-advance-requires
 advance-requires c κs =
     let told = at-told (c .before) in
     let s = at-entry told in
-    let fine = passes-shape (asked s) (s .args .checkpoint) (told-passed told) in (
+    let fine = passes-shape (s .args .connected) (asked s) (s .args .checkpoint) (told-passed told) in (
       fine .0,
       (
         fine .1,
@@ -92,7 +92,7 @@ returns-3 c =
     let told = c .before .before .before in
     let s = told .before .before .before in
     let a = s .args in
-    call-refused (asked s) (a .checkpoint) (a .budget) (a .workspace .now) _
+    call-refused (a .connected) (asked s) (a .checkpoint) (a .budget) (a .workspace .now) _
     (sym (told .check-checkpoint .ensures) ∙ ap shapeAnswer (c .before .flaw .given .1))
 
 returns-4 : tie.Need-returns-4
@@ -100,7 +100,7 @@ returns-4 c =
     let told = c .before .before in
     let s = told .before .before .before in
     let a = s .args in
-    call-refused (asked s) (a .checkpoint) (a .budget) (a .workspace .now) 14
+    call-refused (a .connected) (asked s) (a .checkpoint) (a .budget) (a .workspace .now) 14
     (sym (told .check-checkpoint .ensures) ∙ ap shapeAnswer (c .enum-told .given .1))
 
 same-length : tie.Need-same-length
@@ -113,9 +113,9 @@ returns-5 c =
     let told = at-told count in
     let s = at-entry told in
     let a = s .args in
-    front-advanced (asked s) (a .checkpoint) (a .budget) (a .workspace .now) (calledOf (call .result) (call .last .1 .1 .1 .1 .1 .1 .0))
+    front-advanced (a .connected) (asked s) (a .checkpoint) (a .budget) (a .workspace .now) (calledOf (call .result) (call .last .1 .1 .1 .1 .1 .1 .1 .0))
     (call .ensures)
-    ∙ call-accepted (asked s) (a .checkpoint) (a .budget) (a .workspace .now) (told-passed told) (count .before .before .if1 .left) (told-count count)
+    ∙ call-accepted (a .connected) (asked s) (a .checkpoint) (a .budget) (a .workspace .now) (told-passed told) (count .before .before .if1 .left) (told-count count)
 
 pub search-spec : {M : Type 1} → statement M
 search-spec =

@@ -45,7 +45,7 @@ returns c =
     let call = c .before in
     let join = call .before .before in
     let a = join .before .before .args in
-    found-apart (lent (a .orders) (a .labels) (a .edges) (a .substitutes .now)) (a .checkpoint) (a .budget) (call .search .result) _ _ (call .search .ensures)
+    found-apart (a .connected) (lent (a .orders) (a .labels) (a .edges) (a .substitutes .now)) (a .checkpoint) (a .budget) (call .search .result) _ _ (call .search .ensures)
     _ (ap (leb 4160) (own-length join) ∙ same-test join)
 
 pub search-apart-spec : {M : Type 1} → statement M

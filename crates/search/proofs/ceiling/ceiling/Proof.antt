@@ -10,7 +10,7 @@ use Rattle.search.proofs.ceiling.ceiling.Statement.{statement}
 use Rattle.search.proofs.ceiling.ceiling.Tie as tie
 
 returns : tie.Need-returns
-returns c = λ P setting ready. sym (ceiling-finished setting ready (c .if1 .taken))
+returns c = λ connected P setting ready. sym (ceiling-finished setting ready (c .if1 .taken))
 
 add-top : tie.Need-add-top
 add-top c = search needs
@@ -25,7 +25,7 @@ returns-2 : tie.Need-returns-2
 returns-2 c =
     let joined = c .before .before .before .before .before in
     let open-test = joined .before .before .before in
-    λ P setting ready.
+    λ connected P setting ready.
     c .before .before .later-top .ensures P setting (ready .node)
     ∙ sym (ceiling-open setting ready (open-test .if1 .left)
     (⊎-elim (λ w. inl (w .0 .taken, omega arith)) (λ w. inr (omega arith, omega arith)) (joined .if2 .came)))

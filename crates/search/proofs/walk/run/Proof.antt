@@ -13,12 +13,12 @@ use Rattle.search.proofs.walk.run.Statement.{statement}
 use Rattle.search.proofs.walk.run.Tie as tie
 
 abbrev Inv-loop : tie.InvT-loop
-Inv-loop budget order edges masks first trail₀ workspace₀ at₀ last₀ finished numbers trail workspace at last =
-    EndsAt budget at₀ at last × RanTo budget order edges masks first workspace₀ at₀ workspace at
+Inv-loop connected budget order edges masks first neighbours trail₀ workspace₀ at₀ last₀ finished numbers trail workspace at last =
+    EndsAt budget at₀ at last × RanTo connected budget order edges masks first workspace₀ at₀ workspace at
     × Trail (at .checkpoint .path) (at .checkpoint .depth) trail workspace
 
 abbrev μ-loop : tie.MeasureT-loop
-μ-loop budget order edges masks first trail₀ workspace₀ at₀ last₀ finished numbers trail workspace at last = last - at .checkpoint .steps
+μ-loop connected budget order edges masks first neighbours trail₀ workspace₀ at₀ last₀ finished numbers trail workspace at last = last - at .checkpoint .steps
 
 -- a test that is turned round
 not-true : (b : Bool) → not b ≡ true → b ≡ false
@@ -63,7 +63,7 @@ visit-requires c κs =
     let inv = head .loop .inv in
     let busy = goes-on (inv .0) (turn .if2 .taken) in (
       inv .1 .resumes,
-      (busy, omega (arith, turn .if2 .taken, inv .0 .busy busy), head .before .row-numbers .ensures, inv .2),
+      (busy, omega (arith, turn .if2 .taken, inv .0 .busy busy), head .before .row-numbers .ensures, inv .2, head .before .before .before .before .before .before .pre .3),
     )
 
 -- the loop's head, from the visit
@@ -86,12 +86,12 @@ loop-less c =
 -- one visit more
 ran : (c : tie.After-visit Inv-loop μ-loop)
     → (let a = head c .before .before .before .before .before .before .args in
-    RanTo (a .budget) (a .order) (a .edges .now) (a .masks .now) (a .first .now) (a .workspace .now) (a .walk) (c .visit .last .1 .1 .1 .1 .1 .1 .1 .0)
+    RanTo (a .connected) (a .budget) (a .order) (a .edges .now) (a .masks .now) (a .first .now) (a .workspace .now) (a .walk) (c .visit .last .1 .1 .1 .1 .1 .1 .1 .1 .1 .0)
     (c .visit .result))
 ran c =
     let inv = head c .loop .inv in
     ran-more (inv .1) (omega (arith, inv .0 .busy (was-busy c) .0, c .before .before .before .before .if2 .taken)) (was-busy c)
-    (c .visit .kept .1 .1 .1 .1 .1 .1 .1 .0) (c .visit .ensures .0)
+    (c .visit .kept .1 .1 .1 .1 .1 .1 .1 .1 .1 .0) (c .visit .ensures .0)
 
 loop-again : tie.Need-loop-again Inv-loop μ-loop
 loop-again c =

@@ -101,8 +101,8 @@ returns c =
     let rebuild = known .before .before in
     let counted = rebuild .before .before .before .before in
     let s = entry rebuild in (
-      λ P setting shape words.
-          let start : Accepted P (s .args .checkpoint) =
+      λ connected P setting shape words.
+          let start : Accepted connected P (s .args .checkpoint) =
           record { sound = setting .sound; shape = shape; path-long = s .pre .0 .path-length; incumbent-long = s .pre .1 .0 } in
           call-starts start setting (omega (arith, s .pre .0 .room, rebuild .rebuild .kept .1 .1 .1 .1 .1 .0)) (counted .mapping-size2 .ensures)
           (rebuild .rebuild .ensures .0 P (own-order setting) (shape .depth-max) (shape-reached start) words) (cutoff-is counted setting)
@@ -119,8 +119,8 @@ returns-2 c =
     let rebuild = known .before .before in
     let counted = rebuild .before .before .before .before in
     let s = entry rebuild in (
-      λ P setting shape words.
-          let start : Accepted P (s .args .checkpoint) =
+      λ connected P setting shape words.
+          let start : Accepted connected P (s .args .checkpoint) =
           record { sound = setting .sound; shape = shape; path-long = s .pre .0 .path-length; incumbent-long = s .pre .1 .0 } in
           call-starts start setting (omega (arith, s .pre .0 .room, rebuild .rebuild .kept .1 .1 .1 .1 .1 .0)) (counted .mapping-size2 .ensures)
           (rebuild .rebuild .ensures .0 P (own-order setting) (shape .depth-max) (shape-reached start) words) (cutoff-is counted setting)

@@ -1,17 +1,18 @@
--- `search::walk::Walk::visit` meets its contract: the node is left, or held and left, or its first child is next, and the bound is made where
--- the walk arrives (`VisitTurn`).
+-- `search::walk::Walk::visit` meets its contract: the node is left, a last one held if it may be and left, or its first child is next, and the
+-- bound is made where the walk arrives (`VisitTurn`).
 -- Assumes nothing.
-use mathlib.Core.Path.{_≡_}
-use mathlib.Core.Logic.{⊎-elim}
+use mathlib.Core.Path.{_≡_, sym, _∙_}
+use mathlib.Core.Logic.{inl, inr, ⊎-elim}
 use Prim.Native.Nat.{_+_, _<_}
 use borrow.Author.Needs.{needs}
 use native.Mathlib.Nat.{le-refl}
 use native.Mathlib.Omega.{arith}
+use lib.ListN.{take}
 use Rattle.search.specs.Words.{openRows}
 use Rattle.search.specs.Walking.{InBounds}
 use Rattle.search.proofs.NodeWords.{pairs-max}
 use Rattle.search.proofs.Trails.{trail-kept}
-use Rattle.search.proofs.VisitTurn.{ready-in-bounds, Moves, left, held, down, Led, open-bound, moved-in-bounds, visits-moved}
+use Rattle.search.proofs.VisitTurn.{ready-in-bounds, admits-by-neighbours, Moves, left, held, down, Led, open-bound, moved-in-bounds, visits-moved}
 use Rattle.search.proofs.walk.Walk.visit.Statement.{statement}
 use Rattle.search.proofs.walk.Walk.visit.Tie as tie
 
@@ -36,14 +37,20 @@ retreat-requires c κs =
     let pre = entry known .pre .1 in
     (pre .2, b .path-length, pre .3 .places, b .room, omega (arith, pairs-max b, b .depth-max))
 
+admitted-requires : tie.Need-admitted-requires
+admitted-requires c κs =
+    let known = c .before .before .before in
+    let b = bounds known in
+    (entry known .pre .1 .3 .places, omega (arith, pairs-max b, b .depth-max))
+
 add-cutoff : tie.Need-add-cutoff
 add-cutoff c =
-    let b = bounds (c .before .before) in
+    let b = bounds (c .before .before .before .before .before) in
     omega (arith, pairs-max b, b .depth-max)
 
 retreat-requires-2 : tie.Need-retreat-requires-2
 retreat-requires-2 c κs =
-    let known = c .before .before .before .before .before in
+    let known = c .before .before .before .before .before .before .before .before in
     let b = bounds known in
     let pre = entry known .pre .1 in
     (pre .2, b .path-length, pre .3 .places, b .room, omega (arith, pairs-max b, b .depth-max))
@@ -78,12 +85,20 @@ descend-requires c κs =
 -- the walk moved
 moves : (c : tie.Joined1)
     → (let a = entry (c .before) .args in
-    Moves (a .order) (a .self) (a .workspace .now) (c .if1 .holds) (c .if1 .incumbent) (c .if1 .cutoff) (c .if1 .path) (c .if1 .place))
+    Moves (a .connected) (a .order) (a .edges .now) (a .self) (a .workspace .now) (c .if1 .holds) (c .if1 .incumbent) (c .if1 .cutoff) (c .if1 .path) (c .if1 .place))
 moves c =
     let trail = entry (c .before) .pre .1 .3 in
-    ⊎-elim (λ w. rw (w .6, w .7, w .8, w .9, w .10) (left (w .0 .taken) (λ P sound node. w .4 .ensures .0 P _ sound node trail)))
+    ⊎-elim (λ w. rw (w .6, w .7, w .8, w .9, w .10) (left (inl (w .0 .taken)) (λ P sound node. w .4 .ensures .0 P _ sound node trail)))
     (⊎-elim
-    (λ w. rw (w .7, w .8, w .9, w .10, w .11) (held (w .0 .left) (w .1 .taken) (λ P sound node. w .5 .ensures .0 P _ sound node trail)))
+    (λ w.
+    let s = entry (c .before) in
+    let b = bounds (c .before) in
+    let test = sym (admits-by-neighbours (s .args .connected) (s .pre .1 .4) (take (s .args .self .checkpoint .depth) (s .args .self .checkpoint .path))) ∙ sym (w .3 .ensures _ _ _ (b .path-length) (b .depth-max) (b .pairs-are) trail) in
+    rw (w .10, w .11, w .12, w .13, w .14)
+    (⊎-elim
+    (λ may. rw (may .1, may .2, may .3) (held (w .0 .left) (w .1 .taken) (test ∙ may .0 .taken) (λ P sound node. w .8 .ensures .0 P _ sound node trail)))
+    (λ may. rw (may .1, may .2, may .3) (left (inr (w .0 .left, w .1 .taken, test ∙ may .0 .left)) (λ P sound node. w .8 .ensures .0 P _ sound node trail)))
+    (w .4 .came)))
     (λ w. rw (w .8, w .9, w .10, w .11, w .12) (down (w .0 .left) (w .1 .left) (w .6 .ensures .0))))
     (c .if1 .came)
 
@@ -99,8 +114,8 @@ led c =
     rw (w .5, w .9, w .10) (record { trail = next .0; open-is = next .1; last-is = w .4 .ensures .1 .1 }))
     (⊎-elim
     (λ w.
-    let next = w .5 .ensures .1 .0 _ (b .depth-max) (b .pairs-are) trail in
-    rw (w .6, w .10, w .11) (record { trail = next .0; open-is = next .1; last-is = w .5 .ensures .1 .1 }))
+    let next = w .8 .ensures .1 .0 _ (b .depth-max) (b .pairs-are) trail in
+    rw (w .9, w .13, w .14) (record { trail = next .0; open-is = next .1; last-is = w .8 .ensures .1 .1 }))
     (λ w.
     let below = inner (record { before = record { before = c .before; if1 = w .0 }; if2 = w .1 }) in
     let ready = s .pre .0 .ready in
@@ -143,6 +158,7 @@ visit-spec =
     (tie.spec
     add-steps
     retreat-requires
+    admitted-requires
     add-cutoff
     retreat-requires-2
     sub-descend

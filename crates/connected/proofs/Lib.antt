@@ -1,0 +1,4 @@
+pub mod ConnectedTest
+pub mod Examples
+pub mod Reached
+pub mod Spread

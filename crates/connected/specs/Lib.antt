@@ -1,0 +1,2 @@
+pub mod Connected
+pub mod Spreading
