@@ -20,6 +20,14 @@ impl Answer {
         }
     }
 
+    /// A refusal that has neither place nor row.
+    pub fn refused(number: u32) -> Answer {
+        Answer {
+            number,
+            ..Answer::default()
+        }
+    }
+
     pub fn is_accepted(&self) -> bool {
         self.number == 0
     }

@@ -50,6 +50,12 @@ pub const REFERENCE: Implementation = Implementation {
     to_edition_1: reference::to_edition_1,
 };
 
+/// A test that holds both implementations to what it says.
+pub fn each(test: fn(&Implementation)) {
+    test(&LIBRARY);
+    test(&REFERENCE);
+}
+
 /// Memory lent for output, with a margin on both sides that shows a write out of bounds.
 #[derive(Clone, Debug, PartialEq, Eq)]
 pub struct Buffer<T> {

@@ -408,6 +408,14 @@ fn shuffled_part(random: &mut Random, whole: &Graph) -> Graph {
     part
 }
 
+/// Graph bytes: all vertices, then these edges.
+pub fn graph_of(labels: &[u8], edges: &[[u8; 3]]) -> Vec<u8> {
+    let vertices = labels.iter().flat_map(|&label| [3, label, 0]);
+    let edges = edges.iter().flat_map(|&[a, b, label]| [2, a, b, label]);
+    let commands = vertices.chain(edges).chain([0]);
+    [4, 2].into_iter().chain(commands).collect()
+}
+
 /// Bytes of a graph as any writer of edition 2 may give them.
 pub fn graph_bytes(random: &mut Random, graph: &Graph) -> Vec<u8> {
     bytes_in(random, Edition::Two, graph)

@@ -2,7 +2,7 @@
 //! the same, what is refused, and before what.
 
 use harness::answer::Answer;
-use harness::call::{Implementation, LIBRARY, REFERENCE};
+use harness::call::{each, Implementation};
 use harness::library::{CLIQUE_VERTICES, FIRST_SEARCH, NO_SUBSTITUTES};
 use harness::reference::{CHECKPOINT_BYTES, MAX_VERTICES, UNMAPPED, WORKSPACE_WORDS};
 
@@ -17,19 +17,6 @@ const TWO_SEVENS: &[u8] = &[4, 2, 3, 7, 0, 3, 7, 0, 0];
 const NINE: &[u8] = &[4, 2, 3, 9, 0, 0];
 /// What a buffer holds before a call.
 const BEFORE: u8 = 0x55;
-
-/// Both implementations are held to this page.
-fn each(test: fn(&Implementation)) {
-    test(&LIBRARY);
-    test(&REFERENCE);
-}
-
-fn refused(number: u32) -> Answer {
-    Answer {
-        number,
-        ..Answer::default()
-    }
-}
 
 /// So many vertices of one label, and no edges.
 fn unlinked(order: usize, label: u8) -> Vec<u8> {
@@ -277,7 +264,11 @@ fn more_than_eight_old_vertices_are_25() {
             for new in [EMPTY, SEVEN, &unlinked(3, 7), &unlinked(64, 9)] {
                 let old = unlinked(order, 7);
                 let given = [&old[..], new, NO_SUBSTITUTES];
-                assert_eq!(call(by, given, MAX_VERTICES), refused(25), "{order}");
+                assert_eq!(
+                    call(by, given, MAX_VERTICES),
+                    Answer::refused(25),
+                    "{order}"
+                );
             }
         }
         // it is about the old graph only
@@ -338,7 +329,7 @@ fn the_list_comes_before_25_and_25_before_13() {
             for room in [0, 7, MAX_VERTICES] {
                 for (list, number) in faulty {
                     let answer = call(by, [&old, NINE, list], room);
-                    assert_eq!(answer, refused(number), "{} {order}", by.name);
+                    assert_eq!(answer, Answer::refused(number), "{} {order}", by.name);
                 }
                 let good: [&[u8]; 3] = [NO_SUBSTITUTES, &[7, 0, 9, 0], &[7; 1024]];
                 for list in good {
@@ -365,7 +356,7 @@ fn held_mapping_fits_or_13() {
             let mut mapping = vec![BEFORE; length];
             let answer = (by.clique)(old, new, NO_SUBSTITUTES, 1, &mut mapping);
             if length < 3 {
-                assert_eq!(answer, refused(13));
+                assert_eq!(answer, Answer::refused(13));
                 assert_eq!(mapping, vec![BEFORE; length]);
             } else {
                 let due = Answer {
@@ -387,7 +378,7 @@ fn held_mapping_fits_or_13() {
             let mut mapping = vec![BEFORE; length];
             let answer = (by.clique)(&eight, &other, NO_SUBSTITUTES, 0, &mut mapping);
             if length < 8 {
-                assert_eq!(answer, refused(13));
+                assert_eq!(answer, Answer::refused(13));
                 assert_eq!(mapping, vec![BEFORE; length]);
             } else {
                 assert_eq!(answer, Answer::accepted(1));

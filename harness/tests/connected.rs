@@ -2,7 +2,8 @@
 //! visits, and which checkpoints are in shape for it.
 
 use harness::answer::Answer;
-use harness::call::{Implementation, LIBRARY, REFERENCE};
+use harness::call::{each, Implementation};
+use harness::cases;
 use harness::library::{CONNECTED_SEARCH, FIRST_SEARCH, NO_SUBSTITUTES};
 use harness::random::Random;
 use harness::reference::{CHECKPOINT_BYTES, MAX_VERTICES, WORKSPACE_WORDS};
@@ -25,30 +26,9 @@ const SECOND: [u32; 10] = [
     0xFFFF_FFFF,
 ];
 
-/// Both implementations are held to this page.
-fn each(test: fn(&Implementation)) {
-    test(&LIBRARY);
-    test(&REFERENCE);
-}
-
-fn refused(number: u32) -> Answer {
-    Answer {
-        number,
-        ..Answer::default()
-    }
-}
-
-/// Graph bytes: all vertices, then these edges.
-fn graph(labels: &[u8], edges: &[[u8; 3]]) -> Vec<u8> {
-    let vertices = labels.iter().flat_map(|&label| [3, label, 0]);
-    let edges = edges.iter().flat_map(|&[a, b, label]| [2, a, b, label]);
-    let commands = vertices.chain(edges).chain([0]);
-    [4, 2].into_iter().chain(commands).collect()
-}
-
 /// 0 and 1 hang together, 2 is alone.
 fn c() -> Vec<u8> {
-    graph(&[7, 7, 7], &[[0, 1, 1]])
+    cases::graph_of(&[7, 7, 7], &[[0, 1, 1]])
 }
 
 /// Checkpoint bytes: minimum 0, so many steps, and this state, path and held mapping.
@@ -159,7 +139,11 @@ impl<'a> Given<'a> {
         if fits {
             assert_eq!((resumed.number, read.number), (0, 0), "{self:?}");
         } else {
-            assert_eq!((resumed, read), (refused(14), refused(14)), "{self:?}");
+            assert_eq!(
+                (resumed, read),
+                (Answer::refused(14), Answer::refused(14)),
+                "{self:?}"
+            );
         }
     }
 }
@@ -264,7 +248,7 @@ fn a_held_mapping_that_is_not_connected_is_14_for_the_second_search() {
         first.in_shape(by, &held, true);
         second.in_shape(by, &held, false);
         for budget in [1, ENOUGH] {
-            assert_eq!(second.resume(by, &held, budget).0, refused(14));
+            assert_eq!(second.resume(by, &held, budget).0, Answer::refused(14));
         }
         let (_, last) = first.resume(by, &held, ENOUGH);
         assert_eq!(last, checkpoint(9, 3, &[], &[0, 1, 2]));
@@ -322,16 +306,16 @@ fn both_searches_go_on_where_the_walks_agree() {
 #[test]
 fn sizes_0_and_1_are_connected() {
     each(|by| {
-        let empty = graph(&[], &[]);
+        let empty = cases::graph_of(&[], &[]);
         hold(by, [&empty, &empty], &[], &[]);
-        let (seven, nine) = (graph(&[7], &[]), graph(&[9], &[]));
+        let (seven, nine) = (cases::graph_of(&[7], &[]), cases::graph_of(&[9], &[]));
         hold(by, [&seven, &nine], &[255], &[255]);
         hold(by, [&seven, &seven], &[0], &[0]);
-        let three = graph(&[7, 7, 7], &[]);
+        let three = cases::graph_of(&[7, 7, 7], &[]);
         hold(by, [&three, &nine], &[255; 3], &[255; 3]);
         hold(by, [&three, &three], &[0, 1, 2], &[0, 255, 255]);
         // its only pair is the last row's
-        let late = graph(&[9, 9, 7], &[[0, 1, 1]]);
+        let late = cases::graph_of(&[9, 9, 7], &[[0, 1, 1]]);
         hold(by, [&late, &seven], &[255, 255, 0], &[255, 255, 0]);
         let second = Given::alone(&three, CONNECTED_SEARCH);
         assert_eq!(second.held(by, 1), Some(vec![0, 255, 255]));
@@ -366,15 +350,15 @@ fn the_ceiling_is_about_connected_mappings() {
 #[test]
 fn own_edges_join_nothing() {
     each(|by| {
-        let own = graph(&[7, 7], &[[0, 0, 1], [1, 1, 1]]);
+        let own = cases::graph_of(&[7, 7], &[[0, 0, 1], [1, 1, 1]]);
         hold(by, [&own, &own], &[0, 1], &[0, 255]);
-        let linked = graph(&[7, 7], &[[0, 0, 1], [0, 1, 1], [1, 1, 1]]);
+        let linked = cases::graph_of(&[7, 7], &[[0, 0, 1], [0, 1, 1], [1, 1, 1]]);
         hold(by, [&linked, &linked], &[0, 1], &[0, 1]);
         let held = checkpoint(9, 3, &[], &[0, 1]);
         Given::alone(&own, CONNECTED_SEARCH).in_shape(by, &held, false);
         Given::alone(&linked, CONNECTED_SEARCH).in_shape(by, &held, true);
         // of the one that is alone
-        let last = graph(&[7, 7, 7], &[[0, 1, 1], [2, 2, 1]]);
+        let last = cases::graph_of(&[7, 7, 7], &[[0, 1, 1], [2, 2, 1]]);
         hold(by, [&last, &last], &[0, 1, 2], &[0, 1, 255]);
     });
 }
@@ -383,16 +367,16 @@ fn own_edges_join_nothing() {
 #[test]
 fn a_way_through_a_vertex_left_out_does_not_count() {
     each(|by| {
-        let path = graph(&[7, 9, 7], &[[0, 1, 1], [1, 2, 1]]);
-        let ends = graph(&[7, 7], &[]);
+        let path = cases::graph_of(&[7, 9, 7], &[[0, 1, 1], [1, 2, 1]]);
+        let ends = cases::graph_of(&[7, 7], &[]);
         hold(by, [&path, &ends], &[0, 255, 1], &[0, 255, 255]);
         let held = checkpoint(9, 3, &[], &[0, 255, 1]);
         Given::of([&path, &ends], FIRST_SEARCH).in_shape(by, &held, true);
         Given::of([&path, &ends], CONNECTED_SEARCH).in_shape(by, &held, false);
         // on the other hand the ends may be joined at any distance
         hold(by, [&path, &path], &[0, 1, 2], &[0, 1, 2]);
-        let ring = graph(&[7, 9, 7], &[[0, 1, 1], [1, 2, 1], [0, 2, 1]]);
-        let linked = graph(&[7, 7], &[[0, 1, 1]]);
+        let ring = cases::graph_of(&[7, 9, 7], &[[0, 1, 1], [1, 2, 1], [0, 2, 1]]);
+        let linked = cases::graph_of(&[7, 7], &[[0, 1, 1]]);
         hold(by, [&ring, &linked], &[0, 255, 1], &[0, 255, 1]);
     });
 }
@@ -403,16 +387,19 @@ fn edges_of_any_label_join() {
     each(|by| {
         for labels in [[1, 1], [1, 2], [255, 1], [128, 64]] {
             let [one, other] = labels;
-            let path = graph(&[7, 9, 7], &[[0, 1, one], [1, 2, other]]);
+            let path = cases::graph_of(&[7, 9, 7], &[[0, 1, one], [1, 2, other]]);
             hold(by, [&path, &path], &[0, 1, 2], &[0, 1, 2]);
             // the last vertex is joined to the first only
-            let fork = graph(&[7, 9, 8], &[[0, 1, one], [0, 2, other]]);
+            let fork = cases::graph_of(&[7, 9, 8], &[[0, 1, one], [0, 2, other]]);
             hold(by, [&fork, &fork], &[0, 1, 2], &[0, 1, 2]);
-            let late = graph(&[7, 8, 9], &[[0, 2, one], [1, 2, other]]);
+            let late = cases::graph_of(&[7, 8, 9], &[[0, 2, one], [1, 2, other]]);
             hold(by, [&late, &late], &[0, 1, 2], &[0, 1, 2]);
         }
         // by the list
-        let (sevens, nines) = (graph(&[7, 7], &[[0, 1, 5]]), graph(&[9, 9], &[[0, 1, 5]]));
+        let (sevens, nines) = (
+            cases::graph_of(&[7, 7], &[[0, 1, 5]]),
+            cases::graph_of(&[9, 9], &[[0, 1, 5]]),
+        );
         let mut given = Given::of([&sevens, &nines], CONNECTED_SEARCH);
         assert_eq!(given.held(by, 0), Some(vec![255, 255]));
         given.list = &[7, 0, 9, 0];
@@ -425,10 +412,10 @@ fn edges_of_any_label_join() {
 fn the_first_of_the_largest_connected_is_held() {
     each(|by| {
         // two islands: 0-1 and 2-3-4
-        let islands = graph(&[7; 5], &[[0, 1, 1], [2, 3, 1], [3, 4, 1]]);
+        let islands = cases::graph_of(&[7; 5], &[[0, 1, 1], [2, 3, 1], [3, 4, 1]]);
         let largest = [255, 255, 2, 3, 4];
         hold(by, [&islands, &islands], &[0, 1, 2, 3, 4], &largest);
-        let equal = graph(&[7; 4], &[[0, 1, 1], [2, 3, 1]]);
+        let equal = cases::graph_of(&[7; 4], &[[0, 1, 1], [2, 3, 1]]);
         hold(by, [&equal, &equal], &[0, 1, 2, 3], &[0, 1, 255, 255]);
     });
 }
@@ -438,8 +425,8 @@ fn the_first_of_the_largest_connected_is_held() {
 fn the_example_of_the_readme() {
     each(|by| {
         let row = [[0, 1, 1], [1, 2, 1], [2, 3, 1], [3, 4, 1], [4, 5, 1]];
-        let old = graph(&[7, 9, 5, 7, 9, 8], &row);
-        let new = graph(&[7, 9, 6, 7, 9, 8], &row);
+        let old = cases::graph_of(&[7, 9, 5, 7, 9, 8], &row);
+        let new = cases::graph_of(&[7, 9, 6, 7, 9, 8], &row);
         let first = Given::of([&old, &new], FIRST_SEARCH).search(by, 0, ENOUGH);
         assert_eq!(first, finished(Some(&[0, 1, 255, 3, 4, 5]), 13, 6));
         let second = Given::of([&old, &new], CONNECTED_SEARCH).search(by, 0, ENOUGH);
@@ -511,7 +498,7 @@ fn the_refusal_stands_at_its_place() {
             }
             let mut room = [BEFORE; 13];
             let started = (by.start)(&c, &c, &[], connected, 0, &mut room);
-            assert_eq!(started, refused(13));
+            assert_eq!(started, Answer::refused(13));
         }
     });
 }
@@ -536,7 +523,7 @@ fn wide(edges: &[(usize, usize)]) -> Vec<u8> {
         .iter()
         .map(|&(a, b)| [a.min(b) as u8, a.max(b) as u8, 1])
         .collect();
-    graph(&[7; MAX_VERTICES], &edges)
+    cases::graph_of(&[7; MAX_VERTICES], &edges)
 }
 
 /// A checkpoint that holds each vertex on itself, but for these.

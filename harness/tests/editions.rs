@@ -2,7 +2,7 @@
 //! file begins, the places of faults, labels, substitutes, and files moved there and back.
 
 use harness::answer::Answer;
-use harness::call::{Implementation, LIBRARY, REFERENCE};
+use harness::call::{each, Implementation};
 use harness::cases;
 use harness::library::{EDITION_1_BYTES, FIRST_SEARCH, GRAPH_BYTES, NO_SUBSTITUTES};
 use harness::random::Random;
@@ -25,12 +25,6 @@ const BEFORE: u8 = 0x55;
 
 /// Labels of which many have a byte in common.
 const LABELS: [u16; 10] = [1, 7, 255, 256, 257, 263, 1_792, 65_280, 65_534, 65_535];
-
-/// Both implementations are held to this page.
-fn each(test: fn(&Implementation)) {
-    test(&LIBRARY);
-    test(&REFERENCE);
-}
 
 fn refused(number: u32, value: u64) -> Answer {
     Answer {

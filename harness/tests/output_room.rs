@@ -1,6 +1,6 @@
 //! 13 is the last refusal, and comes only where the output does not fit (01, "Refusals by place of checking").
 
-use harness::call::{Implementation, LIBRARY, REFERENCE};
+use harness::call::each;
 use harness::library::{FIRST_SEARCH, NO_SUBSTITUTES};
 use harness::reference::{MAX_VERTICES, WORKSPACE_WORDS};
 
@@ -11,12 +11,6 @@ const FRESH: [u8; 14] = [16, 1, 17, 0, 0, 0, 0, 0, 0, 0, 0, 18, 0, 0];
 const LAST: [u8; 20] = [
     16, 1, 17, 6, 0, 0, 0, 0, 0, 0, 0, 18, 3, 20, 1, 20, 0, 20, 255, 0,
 ];
-
-/// Both implementations are held to this page.
-fn each(test: fn(&Implementation)) {
-    test(&LIBRARY);
-    test(&REFERENCE);
-}
 
 #[test]
 fn start_fits_or_13() {

@@ -2,7 +2,7 @@
 //! mapping, the search, clique branching and checkpoints.
 
 use harness::answer::Answer;
-use harness::call::{Implementation, LIBRARY, REFERENCE};
+use harness::call::{each, Implementation};
 use harness::cases;
 use harness::library::{FIRST_SEARCH, GRAPH_BYTES, NO_SUBSTITUTES};
 use harness::random::Random;
@@ -12,26 +12,12 @@ use harness::reference::{CHECKPOINT_BYTES, MAX_VERTICES, WORKSPACE_WORDS};
 /// More visits than any of the searches by hand makes.
 const ENOUGH: u64 = 100;
 
-/// Both implementations are held to this page.
-fn each(test: fn(&Implementation)) {
-    test(&LIBRARY);
-    test(&REFERENCE);
-}
-
 fn refused(number: u32, value: u64, earlier: u64) -> Answer {
     Answer {
         number,
         earlier,
         ..Answer::accepted(value)
     }
-}
-
-/// Graph bytes: all vertices, then these edges.
-fn graph(labels: &[u8], edges: &[[u8; 3]]) -> Vec<u8> {
-    let vertices = labels.iter().flat_map(|&label| [3, label, 0]);
-    let edges = edges.iter().flat_map(|&[a, b, label]| [2, a, b, label]);
-    let commands = vertices.chain(edges).chain([0]);
-    [4, 2].into_iter().chain(commands).collect()
 }
 
 /// 64 vertices with all edges, own edges too.
@@ -77,7 +63,7 @@ fn own_edges_are_read_and_refused_as_any_other() {
             assert_eq!((by.check_graph)(bytes), expected, "{} {bytes:?}", by.name);
         }
         // own edges do not stand in the way of each other, nor of an edge between
-        let both = graph(&[7, 9], &[[1, 1, 3], [1, 0, 4], [0, 0, 5]]);
+        let both = cases::graph_of(&[7, 9], &[[1, 1, 3], [1, 0, 4], [0, 0, 5]]);
         assert_eq!((by.check_graph)(&both), Answer::accepted(2));
     });
 }
@@ -95,9 +81,9 @@ fn an_edge_is_judged_by_5_then_7_then_8() {
                     _ if again => refused(8, 12, 0),
                     _ => Answer::accepted(2),
                 };
-                let once = graph(&[7, 7], &[[a, b, label]]);
+                let once = cases::graph_of(&[7, 7], &[[a, b, label]]);
                 assert_eq!((by.check_graph)(&once), due(false), "{} {once:?}", by.name);
-                let twice = graph(&[7, 7], &[[a, b, label], [b, a, label]]);
+                let twice = cases::graph_of(&[7, 7], &[[a, b, label], [b, a, label]]);
                 assert_eq!((by.check_graph)(&twice), due(true), "{} {twice:?}", by.name);
             }
         }
@@ -133,7 +119,7 @@ fn the_longest_graph_is_accepted() {
 
 #[test]
 fn the_reference_writes_by_rising_a_then_rising_b() {
-    let bytes = graph(
+    let bytes = cases::graph_of(
         &[7, 8, 9],
         &[
             [2, 2, 6],
@@ -153,7 +139,7 @@ fn the_reference_writes_by_rising_a_then_rising_b() {
         [1, 2, 5],
         [2, 2, 6],
     ];
-    assert_eq!(written, graph(&[7, 8, 9], &rising));
+    assert_eq!(written, cases::graph_of(&[7, 8, 9], &rising));
     for seed in 0..2_000 {
         let mut random = Random::new(seed);
         let Problem { old, new, .. } = cases::problem(&mut random, 0..20);
@@ -172,8 +158,8 @@ fn check(by: &Implementation, [old, new]: [&[u8]; 2], mapping: &[u8]) -> Answer 
 #[test]
 fn paired_vertices_need_equal_own_edges() {
     each(|by| {
-        let with = |label| graph(&[7], &[[0, 0, label]]);
-        let without = graph(&[7], &[]);
+        let with = |label| cases::graph_of(&[7], &[[0, 0, label]]);
+        let without = cases::graph_of(&[7], &[]);
         let differ = refused(22, 0, 0);
         let one = Answer::accepted(1);
         assert_eq!(check(by, [&with(1), &without], &[0]), differ);
@@ -195,14 +181,14 @@ type Checked<'a> = ([&'a [u8]; 2], &'a [u8], Answer);
 #[test]
 fn a_row_is_tested_with_itself_before_earlier_rows() {
     each(|by| {
-        let seven = graph(&[7], &[]);
-        let sevens = graph(&[7, 7], &[]);
-        let last_holds = graph(&[7, 7], &[[1, 1, 1]]);
-        let both_hold = graph(&[7, 7], &[[0, 0, 1], [1, 1, 1]]);
-        let linked = graph(&[7, 7], &[[0, 1, 1]]);
-        let linked_last_holds = graph(&[7, 7], &[[0, 1, 1], [1, 1, 1]]);
-        let holding = graph(&[7], &[[0, 0, 1]]);
-        let nine = graph(&[9], &[]);
+        let seven = cases::graph_of(&[7], &[]);
+        let sevens = cases::graph_of(&[7, 7], &[]);
+        let last_holds = cases::graph_of(&[7, 7], &[[1, 1, 1]]);
+        let both_hold = cases::graph_of(&[7, 7], &[[0, 0, 1], [1, 1, 1]]);
+        let linked = cases::graph_of(&[7, 7], &[[0, 1, 1]]);
+        let linked_last_holds = cases::graph_of(&[7, 7], &[[0, 1, 1], [1, 1, 1]]);
+        let holding = cases::graph_of(&[7], &[[0, 0, 1]]);
+        let nine = cases::graph_of(&[9], &[]);
         let table: [Checked; 15] = [
             ([&last_holds, &seven], &[0, 0], refused(22, 1, 1)),
             ([&both_hold, &holding], &[0, 0], refused(20, 1, 0)),
@@ -334,8 +320,8 @@ fn finds(
 #[test]
 fn a_used_vertex_is_no_candidate_by_its_own_edge() {
     each(|by| {
-        let old = graph(&[7, 7], &[[0, 0, 5], [1, 1, 5], [0, 1, 5]]);
-        let new = graph(&[7], &[[0, 0, 5]]);
+        let old = cases::graph_of(&[7, 7], &[[0, 0, 5], [1, 1, 5], [0, 1, 5]]);
+        let new = cases::graph_of(&[7], &[[0, 0, 5]]);
         finds(by, [&old, &new], 0, (Some(&[0, 255]), 4, 2));
         finds(by, [&old, &new], 1, (Some(&[0, 255]), 4, 2));
         finds(by, [&old, &new], 2, (None, 3, 2));
@@ -343,7 +329,7 @@ fn a_used_vertex_is_no_candidate_by_its_own_edge() {
         // three rows, of which each new vertex serves only one
         let sides = [[0, 1, 5], [0, 2, 5], [1, 2, 5]];
         let own = [[0, 0, 5], [1, 1, 5], [2, 2, 5]];
-        let three = graph(&[7, 7, 7], &[&sides[..], &own[..]].concat());
+        let three = cases::graph_of(&[7, 7, 7], &[&sides[..], &own[..]].concat());
         // the empty path; 0, 0 1, 0 255; 1, 1 0, 1 255; 255
         finds(by, [&three, &old], 3, (None, 8, 3));
         let found = search(by, [&three, &old], 0, ENOUGH);
@@ -355,8 +341,8 @@ fn a_used_vertex_is_no_candidate_by_its_own_edge() {
 #[test]
 fn own_edges_enter_the_first_candidates() {
     each(|by| {
-        let with = |label| graph(&[7], &[[0, 0, label]]);
-        let without = graph(&[7], &[]);
+        let with = |label| cases::graph_of(&[7], &[[0, 0, label]]);
+        let without = cases::graph_of(&[7], &[]);
         for [old, new] in [
             [with(1), without.clone()],
             [without.clone(), with(1)],
@@ -374,8 +360,8 @@ fn own_edges_enter_the_first_candidates() {
         }
         finds(by, [&with(3), &with(3)], 1, (Some(&[0]), 3, 2));
         // among vertices of one label each finds its own
-        let first = graph(&[7, 7], &[[0, 0, 5]]);
-        let last = graph(&[7, 7], &[[1, 1, 5]]);
+        let first = cases::graph_of(&[7, 7], &[[0, 0, 5]]);
+        let last = cases::graph_of(&[7, 7], &[[1, 1, 5]]);
         finds(by, [&first, &last], 0, (Some(&[1, 0]), 5, 3));
         finds(by, [&first, &first], 0, (Some(&[0, 1]), 5, 3));
         finds(by, [&with(5), &last], 0, (Some(&[1]), 3, 2));
@@ -390,7 +376,12 @@ fn own_edges_enter_the_first_candidates() {
 #[test]
 fn own_edges_do_not_read_the_list() {
     each(|by| {
-        let graphs = |from, to| [graph(&[7], &[[0, 0, from]]), graph(&[9], &[[0, 0, to]])];
+        let graphs = |from, to| {
+            [
+                cases::graph_of(&[7], &[[0, 0, from]]),
+                cases::graph_of(&[9], &[[0, 0, to]]),
+            ]
+        };
         let list = &[7, 0, 9, 0];
         for (from, to, answer) in [
             (1, 1, Answer::accepted(1)),
@@ -416,8 +407,8 @@ fn own_edges_do_not_read_the_list() {
 #[test]
 fn a_checkpoint_is_in_shape_by_own_edges() {
     each(|by| {
-        let with = graph(&[7], &[[0, 0, 1]]);
-        let without = graph(&[7], &[]);
+        let with = cases::graph_of(&[7], &[[0, 0, 1]]);
+        let without = cases::graph_of(&[7], &[]);
         let begun = [16, 0, 17, 1, 0, 0, 0, 0, 0, 0, 0, 18, 0, 19, 0, 0];
         let held = [16, 0, 17, 2, 0, 0, 0, 0, 0, 0, 0, 18, 1, 19, 255, 20, 0, 0];
         for (graphs, fits) in [

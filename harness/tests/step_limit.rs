@@ -4,7 +4,7 @@
 use std::process::Command;
 
 use harness::answer::Answer;
-use harness::call::{Implementation, LIBRARY, REFERENCE};
+use harness::call::{each, Implementation, LIBRARY, REFERENCE};
 use harness::cases;
 use harness::fast;
 use harness::random::Random;
@@ -13,12 +13,6 @@ use harness::reference::{advance, uncapped_limits, Checkpoint, Graph, Problem, S
 
 const CAP: u64 = u64::MAX;
 const MAX_SIZE: u64 = 64;
-
-/// Both implementations are held to this page.
-fn each(test: fn(&Implementation)) {
-    test(&LIBRARY);
-    test(&REFERENCE);
-}
 
 fn limit(by: &Implementation, m: u64, n: u64) -> u64 {
     let answer = (by.step_limit)(m, n);

@@ -2,7 +2,7 @@
 //! refused, and before what.
 
 use harness::answer::Answer;
-use harness::call::{Implementation, LIBRARY, REFERENCE};
+use harness::call::{each, Implementation};
 use harness::library::{FIRST_SEARCH, NO_SUBSTITUTES};
 use harness::reference::{CHECKPOINT_BYTES, MAX_VERTICES, WORKSPACE_WORDS};
 
@@ -13,19 +13,6 @@ const NINE: &[u8] = &[4, 2, 3, 9, 0, 0];
 const FRESH: &[u8] = &[16, 0, 17, 0, 0, 0, 0, 0, 0, 0, 0, 18, 0, 0];
 /// Of one old vertex, mapped to 0: held after 2 visits, with the search not finished.
 const HELD: &[u8] = &[16, 0, 17, 2, 0, 0, 0, 0, 0, 0, 0, 18, 1, 19, 255, 20, 0, 0];
-
-/// Both implementations are held to this page.
-fn each(test: fn(&Implementation)) {
-    test(&LIBRARY);
-    test(&REFERENCE);
-}
-
-fn refused(number: u32) -> Answer {
-    Answer {
-        number,
-        ..Answer::default()
-    }
-}
 
 /// Answers with the next checkpoint. Refused, the memory must be as it was.
 fn resume(
@@ -90,7 +77,7 @@ fn judge(by: &Implementation, substitutes: &[u8], agree: bool) {
     let given = [SEVEN, NINE, substitutes];
     let (answer, mapping, steps, ceiling) = match agree {
         true => (Answer::accepted(1), 0, 3, 2),
-        false => (refused(21), 255, 2, 1),
+        false => (Answer::refused(21), 255, 2, 1),
     };
     assert_eq!(check(by, given, &[0]), answer, "{} {given:?}", by.name);
     assert_eq!(check(by, given, &[255]), Answer::accepted(0));
@@ -234,7 +221,7 @@ fn every_two_labels_may_be_a_pair() {
                 Answer::accepted(1)
             );
             for list in [vec![], pair(to, from), pair(from, from), pair(to, to)] {
-                assert_eq!(check(by, [&old, &new, &list], &[0]), refused(21));
+                assert_eq!(check(by, [&old, &new, &list], &[0]), Answer::refused(21));
             }
         }
     });
@@ -258,7 +245,12 @@ fn both_bytes_of_a_label_tell() {
                 .chain(others(to).map(|other| pair(from, other)));
             for list in lists {
                 let given = [&old[..], &new, &list];
-                assert_eq!(check(by, given, &[0]), refused(21), "{} {list:?}", by.name);
+                assert_eq!(
+                    check(by, given, &[0]),
+                    Answer::refused(21),
+                    "{} {list:?}",
+                    by.name
+                );
                 assert_eq!(found(by, given).mapping, [255], "{} {list:?}", by.name);
             }
             let list = pair(from, to);
@@ -294,7 +286,7 @@ fn a_length_that_four_does_not_divide_or_above_1024_is_23() {
             65540, 66560,
         ] {
             let answers = all_answers(by, &vec![7; length]);
-            assert_eq!(answers, [refused(23); 4], "{} {length}", by.name);
+            assert_eq!(answers, [Answer::refused(23); 4], "{} {length}", by.name);
         }
         for length in [0, 4, 256, 512, 516, 1020, 1024] {
             let answers = all_answers(by, &vec![7; length]);
@@ -311,7 +303,12 @@ fn a_label_0_is_24() {
                 let mut list = vec![7; length];
                 list[2 * label..2 * label + 2].fill(0);
                 let answers = all_answers(by, &list);
-                assert_eq!(answers, [refused(24); 4], "{} {length} {label}", by.name);
+                assert_eq!(
+                    answers,
+                    [Answer::refused(24); 4],
+                    "{} {length} {label}",
+                    by.name
+                );
             }
         }
     });
@@ -346,10 +343,15 @@ fn the_length_comes_before_a_label_0() {
                 let mut list = vec![7; length];
                 list[2 * label..2 * label + 2].fill(0);
                 let answers = all_answers(by, &list);
-                assert_eq!(answers, [refused(23); 4], "{} {length} {label}", by.name);
+                assert_eq!(
+                    answers,
+                    [Answer::refused(23); 4],
+                    "{} {length} {label}",
+                    by.name
+                );
             }
             let answers = all_answers(by, &vec![0; length]);
-            assert_eq!(answers, [refused(23); 4], "{} {length}", by.name);
+            assert_eq!(answers, [Answer::refused(23); 4], "{} {length}", by.name);
         }
     });
 }
@@ -407,7 +409,7 @@ fn the_list_comes_before_all_else() {
             let given = [SEVEN, NINE, list];
             let mappings: [(&[u8], u32); 3] = [(&[], 18), (&[0, 0], 18), (&[1], 19)];
             for (mapping, other) in mappings {
-                assert_eq!(check(by, given, mapping), refused(number(other)));
+                assert_eq!(check(by, given, mapping), Answer::refused(number(other)));
             }
             let twice = [&[4, 2, 3, 7, 0, 3, 7, 0, 0], NINE, list];
             assert_eq!(check(by, twice, &[0, 0]).number, number(20));
@@ -421,7 +423,7 @@ fn the_list_comes_before_all_else() {
             assert_eq!(check(by, unlike, &[0, 1]).number, number(22));
 
             let start = (by.start)(SEVEN, NINE, list, FIRST_SEARCH, 0, &mut []);
-            assert_eq!(start, refused(number(13)));
+            assert_eq!(start, Answer::refused(number(13)));
 
             let resumed = |checkpoint: &[u8], budget, words, room| {
                 let mut workspace = vec![9; words];
@@ -478,9 +480,12 @@ fn the_path_is_in_shape_by_the_list() {
             &[7, 0, 9, 1],
         ];
         for other in others {
-            assert_eq!(resume(by, under(other), &checkpoint, 1).0, refused(14));
+            assert_eq!(
+                resume(by, under(other), &checkpoint, 1).0,
+                Answer::refused(14)
+            );
             let read = (by.read_out)(SEVEN, NINE, other, FIRST_SEARCH, &checkpoint, &mut []);
-            assert_eq!(read, refused(14), "{} {other:?}", by.name);
+            assert_eq!(read, Answer::refused(14), "{} {other:?}", by.name);
         }
     });
 }
@@ -494,9 +499,12 @@ fn the_held_mapping_is_in_shape_by_the_list() {
         assert_eq!(mapping, [0]);
         let mut mapping = [0x55; 1];
         let read = (by.read_out)(SEVEN, NINE, &[9, 0, 7, 0], FIRST_SEARCH, HELD, &mut mapping);
-        assert_eq!(read, refused(14));
+        assert_eq!(read, Answer::refused(14));
         assert_eq!(mapping, [0x55]);
-        assert_eq!(resume(by, [SEVEN, NINE, &[]], HELD, 0).0, refused(14));
+        assert_eq!(
+            resume(by, [SEVEN, NINE, &[]], HELD, 0).0,
+            Answer::refused(14)
+        );
     });
 }
 
@@ -592,6 +600,6 @@ fn all_vertices_may_be_substituted() {
         assert_eq!((answer.number, answer.ceiling), (0, 65));
         assert_eq!(found(by, given).mapping, turned);
         let unlisted = [&old[..], &new[..], &list[..1020]];
-        assert_eq!(resume(by, unlisted, &held, 1).0, refused(14));
+        assert_eq!(resume(by, unlisted, &held, 1).0, Answer::refused(14));
     });
 }

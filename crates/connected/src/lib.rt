@@ -65,7 +65,6 @@ fn is_mapped(mapping: &[u8], vertex: OldVertex) -> bool
     mapping[v] != UNMAPPED
 }
 
-// The mapped vertices.
 fn mapped_set(mapping: &[u8]) -> u64
     ensures { λ r. ⌜ r ≡ mappedSet (now (mapping .entry)) ⌝ }
 {

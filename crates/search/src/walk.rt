@@ -1,4 +1,5 @@
-// One visit of the walk, by value, of the first search or the connected one, and a run of visits, over a workspace that holds the candidate words of the path's ancestors.
+// One visit of the walk, by value, of the first search or the connected one, and a run of visits, over a workspace that holds the candidate words of the
+// path's ancestors.
 
 use super::words;
 use bitset::Least;
