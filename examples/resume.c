@@ -1,6 +1,7 @@
 /* A search that goes on from run to run, through a file.
  *
- *     resume [--connected] [--substitute LABEL:LABEL]... OLD NEW CHECKPOINT BUDGET [MINIMUM]
+ *     resume [--connected] [--descend] [--substitute LABEL:LABEL]... OLD NEW CHECKPOINT BUDGET
+ *            [MINIMUM]
  *
  * OLD and NEW are graph files of edition 2. Without a file CHECKPOINT the search starts, for
  * mappings of at least MINIMUM vertices (0 to 255; 0 if not given), else it goes on from there;
@@ -12,22 +13,28 @@
  * With `--connected` only mappings are looked for whose old vertices hang together by edges among
  * themselves. Either every run gives it, or none does.
  *
+ * With `--descend` the search is a descent, from the largest minimum that anything can reach down to
+ * MINIMUM. It finds the same, for graphs that resemble each other mostly in far fewer visits. What is
+ * printed then is the visits of this run instead of the steps of the search, and the descent's
+ * ceiling. Either every run gives it, or none does.
+ *
  * `--substitute 7:9` lets old vertices of label 7 be mapped to new ones of label 9 too; labels are
  * 1 to 65535, and at most 256 pairs may be given. Each run has to give the same ones, in the same
  * order.
  *
  * BUDGET, MINIMUM and each LABEL are decimal numbers without sign or leading zero. A MINIMUM is
  * refused if the search in the file started with another one, and a file is refused if it was saved
- * for other graphs or substitutes, or for the other search: a checkpoint alone does not tell of which
- * it is, and a finished one would give the answer for those. `refused NUMBER (VALUE)` is a refusal of
- * include/golfcedar.h. A run that is refused leaves the file as it was.
+ * for other graphs or substitutes, or for the other search, or as a descent if this is none: a
+ * checkpoint alone does not tell of which it is, and a finished one would give the answer for those.
+ * `refused NUMBER (VALUE)` is a refusal of include/golfcedar.h. A run that is refused leaves the file
+ * as it was.
  *
  * The file has four parts: the bytes of the old graph, of the new graph, of the substitutes and of
  * the checkpoint, each after its length, which takes two bytes, the lower first. The first three
  * stand there whole, so that nothing rests on a digest; they count as the same if their bytes are.
- * With `--connected` there is a part more before the checkpoint, which is the byte 1: no checkpoint
- * is that, so a file of four parts is one without `--connected`. examples/resume.rs reads and
- * writes the same file.
+ * With `--connected` there is a part more before the checkpoint, which is the byte 1, and with
+ * `--descend` one after that, which is the byte 2 and MINIMUM: no checkpoint is either, so a file of
+ * four parts is one without both. examples/resume.rs reads and writes the same file.
  *
  * A file from before edition 2 has graphs of edition 1 and substitutes of one byte a label. It is
  * read as if it were saved for the moved graphs, and for the same labels in two bytes each: so it
@@ -44,7 +51,7 @@
 
 #define SAVED_BYTES                                                                                \
     (2 + GOLFCEDAR_GRAPH_BYTES + 2 + GOLFCEDAR_GRAPH_BYTES + 2 + GOLFCEDAR_SUBSTITUTES_BYTES +     \
-     2 + 1 + 2 + GOLFCEDAR_CHECKPOINT_BYTES)
+     2 + 1 + 2 + 2 + 2 + GOLFCEDAR_CHECKPOINT_BYTES)
 
 /* Room for every file that can be accepted, and a byte more by which a longer one is refused. */
 struct bytes {
@@ -55,7 +62,11 @@ struct bytes {
 struct search {
     struct bytes old, new, substitutes, checkpoint;
     uint32_t connected;
+    int descending;
+    uint8_t floor; /* of a descent */
     const char *file;
+    /* What the last call answered: the visits if it was a descent's. */
+    uint64_t ceiling, visits;
 };
 
 struct reading {
@@ -206,15 +217,15 @@ static int widen(struct bytes *substitutes)
 /* Answers 0 if the parts are cut off, if more follows, or if they are from before edition 2 and not
  * sound. They are from then if the graphs are. No list of that time ends as a checkpoint does, with
  * a 0: so a file that is cut off after the list is not taken for one of three parts. */
-static int take_parts(const struct bytes *saved, struct bytes *old, struct bytes *new,
-                      struct bytes *substitutes, uint32_t *connected, struct bytes *checkpoint)
+static int take_parts(const struct bytes *saved, struct search *of)
 {
+    struct bytes *substitutes = &of->substitutes, *checkpoint = &of->checkpoint;
     size_t place = 0;
-    *connected = 0;
-    if (!take_part(saved, &place, old) || !take_part(saved, &place, new) ||
+    of->connected = 0, of->descending = 0;
+    if (!take_part(saved, &place, &of->old) || !take_part(saved, &place, &of->new) ||
         !take_part(saved, &place, substitutes))
         return 0;
-    int earlier = old->length == 0 || old->at[0] != 4;
+    int earlier = of->old.length == 0 || of->old.at[0] != 4;
     if (earlier && place == saved->length && substitutes->length > 0 &&
         substitutes->at[substitutes->length - 1] == 0) {
         *checkpoint = *substitutes;
@@ -223,34 +234,46 @@ static int take_parts(const struct bytes *saved, struct bytes *old, struct bytes
         return 0;
     }
     if (!earlier && same(checkpoint, &connected_part)) {
-        *connected = 1;
+        of->connected = 1;
+        if (!take_part(saved, &place, checkpoint))
+            return 0;
+    }
+    if (!earlier && checkpoint->length == 2 && checkpoint->at[0] == 2) {
+        of->descending = 1;
+        of->floor = checkpoint->at[1];
         if (!take_part(saved, &place, checkpoint))
             return 0;
     }
     if (place != saved->length)
         return 0;
-    return !earlier || (move_up(old) && move_up(new) && widen(substitutes));
+    return !earlier || (move_up(&of->old) && move_up(&of->new) && widen(substitutes));
 }
 
 /* Answers 0 if there is no such file. */
 static int load_checkpoint(struct search *search)
 {
-    static struct bytes saved, old, new, substitutes;
-    uint32_t connected;
+    static struct bytes saved;
+    static struct search of;
     if (!load("checkpoint", search->file, &saved))
         return 0;
-    if (!take_parts(&saved, &old, &new, &substitutes, &connected, &search->checkpoint))
+    if (!take_parts(&saved, &of))
         fail("checkpoint", search->file, "damaged, or not a file of this program");
-    if (!same(&old, &search->old))
+    if (!same(&of.old, &search->old))
         fail("checkpoint", search->file, "saved for another old graph: name another file");
-    if (!same(&new, &search->new))
+    if (!same(&of.new, &search->new))
         fail("checkpoint", search->file, "saved for another new graph: name another file");
-    if (!same(&substitutes, &search->substitutes))
+    if (!same(&of.substitutes, &search->substitutes))
         fail("checkpoint", search->file, "saved for other substitutes: name another file");
-    if (connected != search->connected)
+    if (of.connected != search->connected)
         fail("checkpoint", search->file,
-             connected ? "saved with --connected: name another file"
-                       : "saved without --connected: name another file");
+             of.connected ? "saved with --connected: name another file"
+                          : "saved without --connected: name another file");
+    if (of.descending != search->descending)
+        fail("checkpoint", search->file,
+             of.descending ? "saved with --descend: name another file"
+                           : "saved without --descend: name another file");
+    search->floor = of.floor;
+    search->checkpoint = of.checkpoint;
     return 1;
 }
 
@@ -264,6 +287,10 @@ static void save_checkpoint(const struct search *search)
     put_part(&saved, &search->substitutes);
     if (search->connected)
         put_part(&saved, &connected_part);
+    if (search->descending) {
+        const struct bytes descent_part = {{2, search->floor}, 2};
+        put_part(&saved, &descent_part);
+    }
     put_part(&saved, &search->checkpoint);
     char second[4096];
     int length = snprintf(second, sizeof second, "%s.saving", search->file);
@@ -283,11 +310,12 @@ static void start(struct search *search, uint8_t minimum)
     const struct bytes *substitutes = &search->substitutes;
     struct bytes *checkpoint = &search->checkpoint;
     uint64_t value;
-    uint32_t number = golfcedar_start(old->at, old->length, new->at, new->length, substitutes->at,
-                                      substitutes->length, search->connected, minimum,
-                                      checkpoint->at, sizeof checkpoint->at, &value);
+    uint32_t number = (search->descending ? golfcedar_descend_start : golfcedar_start)(
+        old->at, old->length, new->at, new->length, substitutes->at, substitutes->length,
+        search->connected, minimum, checkpoint->at, sizeof checkpoint->at, &value);
     accept_or_exit("checkpoint", search->file, number, value);
     checkpoint->length = value;
+    search->floor = minimum;
 }
 
 static void resume(struct search *search, uint64_t budget)
@@ -296,12 +324,20 @@ static void resume(struct search *search, uint64_t budget)
     static struct bytes next;
     const struct bytes *old = &search->old, *new = &search->new;
     const struct bytes *substitutes = &search->substitutes, *checkpoint = &search->checkpoint;
-    uint64_t value, ceiling;
-    uint32_t number = golfcedar_resume(old->at, old->length, new->at, new->length, substitutes->at,
-                                       substitutes->length, search->connected, checkpoint->at,
-                                       checkpoint->length, budget, workspace,
-                                       GOLFCEDAR_WORKSPACE_WORDS, next.at, sizeof next.at, &value,
-                                       &ceiling);
+    uint64_t value;
+    uint32_t number;
+    if (search->descending)
+        number = golfcedar_descend_resume(old->at, old->length, new->at, new->length,
+                                          substitutes->at, substitutes->length, search->connected,
+                                          search->floor, checkpoint->at, checkpoint->length, budget,
+                                          workspace, GOLFCEDAR_WORKSPACE_WORDS, next.at,
+                                          sizeof next.at, &value, &search->ceiling,
+                                          &search->visits);
+    else
+        number = golfcedar_resume(old->at, old->length, new->at, new->length, substitutes->at,
+                                  substitutes->length, search->connected, checkpoint->at,
+                                  checkpoint->length, budget, workspace, GOLFCEDAR_WORKSPACE_WORDS,
+                                  next.at, sizeof next.at, &value, &search->ceiling);
     accept_or_exit("checkpoint", search->file, number, value);
     next.length = value;
     search->checkpoint = next;
@@ -321,11 +357,11 @@ static struct reading read_out(const struct search *search)
     return reading;
 }
 
-/* The second byte of checkpoint bytes that are accepted is the minimum. */
+/* The second byte of checkpoint bytes that are accepted is the search's minimum. */
 static void same_minimum_or_exit(const struct search *search, uint64_t minimum)
 {
     read_out(search);
-    uint8_t started = search->checkpoint.at[1];
+    uint8_t started = search->descending ? search->floor : search->checkpoint.at[1];
     if (started != minimum) {
         fprintf(stderr, "checkpoint %s: started with minimum %d, not %" PRIu64 "\n", search->file,
                 started, minimum);
@@ -347,12 +383,16 @@ static void print(const struct search *search)
 {
     struct reading reading = read_out(search);
     int finished = reading.state >= 2, held = reading.state % 2 == 1;
-    printf("state %s\nsteps %" PRIu64 "\n", finished ? "finished" : "unfinished", reading.steps);
+    printf("state %s\n", finished ? "finished" : "unfinished");
+    if (search->descending)
+        printf("visits %" PRIu64 "\n", search->visits);
+    else
+        printf("steps %" PRIu64 "\n", reading.steps);
     if (held)
         printf("size %" PRIu64 "\n", reading.size);
     else
         printf("size none\n");
-    printf("ceiling %" PRIu64 "\n", reading.ceiling);
+    printf("ceiling %" PRIu64 "\n", search->ceiling);
     if (held) {
         uint64_t order;
         golfcedar_check_graph(search->old.at, search->old.length, &order);
@@ -369,6 +409,9 @@ int main(int count, char **arguments)
         if (count > 1 && strcmp(arguments[1], "--connected") == 0) {
             search.connected = 1;
             count -= 1, arguments += 1;
+        } else if (count > 1 && strcmp(arguments[1], "--descend") == 0) {
+            search.descending = 1;
+            count -= 1, arguments += 1;
         } else if (count > 2 && strcmp(arguments[1], "--substitute") == 0) {
             add_substitute_or_exit(&search.substitutes, arguments[2]);
             count -= 2, arguments += 2;
@@ -378,7 +421,8 @@ int main(int count, char **arguments)
     }
     if (count != 5 && count != 6)
         fail("resume", "needs",
-             "[--connected] [--substitute LABEL:LABEL]... OLD NEW CHECKPOINT BUDGET [MINIMUM]");
+             "[--connected] [--descend] [--substitute LABEL:LABEL]... "
+             "OLD NEW CHECKPOINT BUDGET [MINIMUM]");
     uint64_t budget = number_or_exit("budget", arguments[4], UINT64_MAX);
     uint64_t minimum = count == 6 ? number_or_exit("minimum", arguments[5], UINT8_MAX) : 0;
     load_graph("old graph", arguments[1], &search.old);

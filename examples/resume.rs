@@ -1,6 +1,7 @@
 //! A search that goes on from run to run, through a file.
 //!
-//!     resume [--connected] [--substitute LABEL:LABEL]... OLD NEW CHECKPOINT BUDGET [MINIMUM]
+//!     resume [--connected] [--descend] [--substitute LABEL:LABEL]... OLD NEW CHECKPOINT BUDGET
+//!            [MINIMUM]
 //!
 //! OLD and NEW are graph files of edition 2. Without a file CHECKPOINT the search starts, for
 //! mappings of at least MINIMUM vertices (0 to 255; 0 if not given), else it goes on from there;
@@ -10,22 +11,28 @@
 //! With `--connected` only mappings are looked for whose old vertices hang together by edges among
 //! themselves. Either every run gives it, or none does.
 //!
+//! With `--descend` the search is a descent, from the largest minimum that anything can reach down
+//! to MINIMUM. It finds the same, for graphs that resemble each other mostly in far fewer visits.
+//! What is printed then is the visits of this run instead of the steps of the search, and the
+//! descent's ceiling. Either every run gives it, or none does.
+//!
 //! `--substitute 7:9` lets old vertices of label 7 be mapped to new ones of label 9 too; labels are
 //! 1 to 65535, and at most 256 pairs may be given. Each run has to give the same ones, in the same
 //! order.
 //!
 //! BUDGET, MINIMUM and each LABEL are decimal numbers without sign or leading zero. A MINIMUM is
 //! refused if the search in the file started with another one, and a file is refused if it was
-//! saved for other graphs or substitutes, or for the other search: a checkpoint alone does not tell
-//! of which it is, and a finished one would give the answer for those. `refused NUMBER (VALUE)` is a
-//! refusal of include/golfcedar.h. A run that is refused leaves the file as it was.
+//! saved for other graphs or substitutes, or for the other search, or as a descent if this is none:
+//! a checkpoint alone does not tell of which it is, and a finished one would give the answer for
+//! those. `refused NUMBER (VALUE)` is a refusal of include/golfcedar.h. A run that is refused leaves
+//! the file as it was.
 //!
 //! The file has four parts: the bytes of the old graph, of the new graph, of the substitutes and of
 //! the checkpoint, each after its length, which takes two bytes, the lower first. The first three
 //! stand there whole, so that nothing rests on a digest; they count as the same if their bytes are.
-//! With `--connected` there is a part more before the checkpoint, which is the byte 1: no checkpoint
-//! is that, so a file of four parts is one without `--connected`. examples/resume.c reads and
-//! writes the same file.
+//! With `--connected` there is a part more before the checkpoint, which is the byte 1, and with
+//! `--descend` one after that, which is the byte 2 and MINIMUM: no checkpoint is either, so a file
+//! of four parts is one without both. examples/resume.c reads and writes the same file.
 //!
 //! A file from before edition 2 has graphs of edition 1 and substitutes of one byte a label. It is
 //! read as if it were saved for the moved graphs, and for the same labels in two bytes each: so it
@@ -45,11 +52,13 @@ use harness::library::{
     MAX_VERTICES, NO_SUBSTITUTES, SUBSTITUTES_BYTES, UNMAPPED, WORKSPACE_WORDS,
 };
 
-const USAGE: &str = "resume needs: [--connected] [--substitute LABEL:LABEL]... \
+const USAGE: &str = "resume needs: [--connected] [--descend] [--substitute LABEL:LABEL]... \
     OLD NEW CHECKPOINT BUDGET [MINIMUM]";
 
 /// The part of a file of the connected search that stands before the checkpoint.
 const CONNECTED_PART: &[u8] = &[1];
+/// The part of a file of a descent that stands before the checkpoint is this byte and the floor.
+const DESCENT: u8 = 2;
 
 fn main() -> ExitCode {
     let arguments: Vec<String> = env::args().skip(1).collect();
@@ -64,11 +73,16 @@ fn main() -> ExitCode {
 
 fn run(mut arguments: &[String]) -> Result<(), String> {
     let mut connected = FIRST_SEARCH;
+    let mut descending = false;
     let mut substitutes = Vec::new();
     loop {
         arguments = match arguments {
             [option, rest @ ..] if option == "--connected" => {
                 connected = CONNECTED_SEARCH;
+                rest
+            }
+            [option, rest @ ..] if option == "--descend" => {
+                descending = true;
                 rest
             }
             [option, word, rest @ ..] if option == "--substitute" => {
@@ -93,6 +107,7 @@ fn run(mut arguments: &[String]) -> Result<(), String> {
         new: load_graph("new graph", new)?,
         substitutes,
         connected,
+        floor: descending.then_some(minimum.unwrap_or(0)),
         checkpoint: Vec::new(),
         file,
     };
@@ -104,9 +119,9 @@ fn run(mut arguments: &[String]) -> Result<(), String> {
     }
     // A file that cannot be saved is better known before a long search than after it.
     search.save()?;
-    search.resume(budget)?;
+    let answer = search.resume(budget)?;
     search.save()?;
-    search.print()
+    search.print(answer)
 }
 
 /// A number is the word that it is printed as: so nothing else is taken for one.
@@ -165,6 +180,7 @@ struct Saved {
     new: Vec<u8>,
     substitutes: Vec<u8>,
     connected: u32,
+    floor: Option<u8>,
     checkpoint: Vec<u8>,
 }
 
@@ -185,6 +201,11 @@ fn parts(mut saved: &[u8]) -> Option<Saved> {
         connected = CONNECTED_SEARCH;
         checkpoint = take_part(&mut saved)?;
     }
+    let mut floor = None;
+    if let (false, &[DESCENT, least]) = (earlier, checkpoint) {
+        floor = Some(least);
+        checkpoint = take_part(&mut saved)?;
+    }
     if !saved.is_empty() {
         return None;
     }
@@ -198,6 +219,7 @@ fn parts(mut saved: &[u8]) -> Option<Saved> {
         new,
         substitutes,
         connected,
+        floor,
         checkpoint: checkpoint.to_vec(),
     })
 }
@@ -234,6 +256,8 @@ struct Search<'a> {
     new: Vec<u8>,
     substitutes: Vec<u8>,
     connected: u32,
+    /// Of a descent; none for a search alone.
+    floor: Option<u8>,
     checkpoint: Vec<u8>,
     file: &'a str,
 }
@@ -272,6 +296,13 @@ impl Search<'_> {
                 _ => "saved with --connected: name another file",
             }));
         }
+        if saved.floor.is_some() != self.floor.is_some() {
+            return Err(self.failure(match saved.floor {
+                None => "saved without --descend: name another file",
+                Some(_) => "saved with --descend: name another file",
+            }));
+        }
+        self.floor = saved.floor;
         self.checkpoint = saved.checkpoint;
         Ok(true)
     }
@@ -285,6 +316,9 @@ impl Search<'_> {
         if self.connected != FIRST_SEARCH {
             put_part(&mut saved, CONNECTED_PART);
         }
+        if let Some(floor) = self.floor {
+            put_part(&mut saved, &[DESCENT, floor]);
+        }
         put_part(&mut saved, &self.checkpoint);
         let second = format!("{}.saving", self.file);
         fs::write(&second, saved)
@@ -294,7 +328,11 @@ impl Search<'_> {
 
     fn start(&mut self, minimum: u8) -> Result<(), String> {
         let mut checkpoint = vec![0; CHECKPOINT_BYTES];
-        let answer = library::start(
+        let start = match self.floor {
+            None => library::start,
+            Some(_) => library::descend_start,
+        };
+        let answer = start(
             &self.old,
             &self.new,
             &self.substitutes,
@@ -307,22 +345,35 @@ impl Search<'_> {
         Ok(())
     }
 
-    fn resume(&mut self, budget: u64) -> Result<(), String> {
+    fn resume(&mut self, budget: u64) -> Result<Answer, String> {
         let mut workspace = vec![0; WORKSPACE_WORDS];
         let mut next = vec![0; CHECKPOINT_BYTES];
-        let answer = library::resume(
-            &self.old,
-            &self.new,
-            &self.substitutes,
-            self.connected,
-            &self.checkpoint,
-            budget,
-            &mut workspace,
-            &mut next,
-        );
+        let answer = match self.floor {
+            None => library::resume(
+                &self.old,
+                &self.new,
+                &self.substitutes,
+                self.connected,
+                &self.checkpoint,
+                budget,
+                &mut workspace,
+                &mut next,
+            ),
+            Some(floor) => library::descend_resume(
+                &self.old,
+                &self.new,
+                &self.substitutes,
+                self.connected,
+                floor,
+                &self.checkpoint,
+                budget,
+                &mut workspace,
+                &mut next,
+            ),
+        };
         next.truncate(self.accepted(answer)?.value as usize);
         self.checkpoint = next;
-        Ok(())
+        Ok(answer)
     }
 
     fn read_out(&self, mapping: &mut [u8]) -> Result<Answer, String> {
@@ -336,10 +387,10 @@ impl Search<'_> {
         ))
     }
 
-    /// The second byte of checkpoint bytes that are accepted is the minimum.
+    /// The second byte of checkpoint bytes that are accepted is the search's minimum.
     fn check_minimum(&self, minimum: u8) -> Result<(), String> {
         self.read_out(&mut [0; MAX_VERTICES])?;
-        let started = self.checkpoint[1];
+        let started = self.floor.unwrap_or(self.checkpoint[1]);
         if started == minimum {
             Ok(())
         } else {
@@ -347,18 +398,22 @@ impl Search<'_> {
         }
     }
 
-    fn print(&self) -> Result<(), String> {
+    /// `resumed` is what the last call answered.
+    fn print(&self, resumed: Answer) -> Result<(), String> {
         let mut mapping = [0; MAX_VERTICES];
         let answer = self.read_out(&mut mapping)?;
         let (finished, held) = (answer.value >= 2, answer.value % 2 == 1);
         println!("state {}", if finished { "finished" } else { "unfinished" });
-        println!("steps {}", answer.steps);
+        match self.floor {
+            None => println!("steps {}", answer.steps),
+            Some(_) => println!("visits {}", resumed.visits),
+        }
         if held {
             println!("size {}", answer.size)
         } else {
             println!("size none")
         }
-        println!("ceiling {}", answer.ceiling);
+        println!("ceiling {}", resumed.ceiling);
         if held {
             let order = library::check_graph(&self.old).value as usize;
             print_mapping(&mapping[..order]);

@@ -14,9 +14,9 @@
  * writes it.
  *
  * Every function returns 0 where it accepts, else a refusal's number. They are tested in the order in which the function names them, graph bytes command by
- * command and a mapping row by row, and the first condition met gives the number. The number results (`value`, `earlier`, `steps`, `size`, `ceiling`) are the
- * rest of the answer, and every call writes all of them: accepted, what the function says; refused, `value` as below, and `earlier` with 20 and 22; and 0 where
- * the answer says nothing. A refusal changes none of the buffers that were lent (`checkpoint`, `workspace`, `next`, `mapping`, `out`).
+ * command and a mapping row by row, and the first condition met gives the number. The number results (`value`, `earlier`, `steps`, `size`, `ceiling`, `visits`)
+ * are the rest of the answer, and every call writes all of them: accepted, what the function says; refused, `value` as below, and `earlier` with 20 and 22; and 0
+ * where the answer says nothing. A refusal changes none of the buffers that were lent (`checkpoint`, `workspace`, `next`, `mapping`, `out`).
  *
  *    number  refused because                                                             value
  *    27      a graph's bytes begin with anything but 4 2; empty, or 4 alone, is 1        place, always 0
@@ -54,7 +54,8 @@
  * other one. A way through a vertex that is left out does not count, and an edge of a vertex with itself joins nothing. With one mapped vertex, or none, it is
  * connected. The second search makes its visits in the same tree by the same rules, but does not hold a mapping that is not connected: so what it finds may be
  * smaller than what the first one finds, and it may need more steps. A checkpoint that holds a mapping that is not connected is not in shape for the second
- * search: 14, from `golfcedar_resume` and `golfcedar_read_out`; a search that has not begun holds nothing, so `golfcedar_start` writes the same bytes for both.
+ * search: 14, from `golfcedar_resume`, `golfcedar_descend_resume` and `golfcedar_read_out`; a search that has not begun holds nothing, so `golfcedar_start`
+ * writes the same bytes for both searches, and so does `golfcedar_descend_start`.
  * Calls that resume one another are of the same search, all with 0 or all with other values; checkpoint bytes do not tell of which. A checkpoint that the other
  * search left counts as one that no call left: it may be refused with 14, or be accepted and walked, and then neither the ceiling is promised nor that a finished
  * search holds the largest; what is held is still a common subgraph, in the second search a connected one.
@@ -123,6 +124,39 @@ uint32_t golfcedar_read_out(const uint8_t *old_graph, size_t old_len, const uint
                             const uint8_t *substitutes, size_t substitutes_len, uint32_t connected, const uint8_t *checkpoint,
                             size_t checkpoint_len, uint8_t *mapping, size_t mapping_len, uint64_t *value, uint64_t *steps, uint64_t *size,
                             uint64_t *ceiling);
+
+/* A descent that has not begun. It finds what the search with minimum `floor` finds, by searches from above: the first has the largest minimum that anything
+ * can reach, and where one finishes with nothing held, the next begins with a minimum lower by one, down to `floor`. A search with a high minimum leaves most
+ * nodes at once: so take the descent nearly always where the two graphs resemble each other, as an old panel and a new one do. Where they do not, it may take
+ * more visits than the search alone (README.md has figures).
+ * The first minimum is the least of three numbers: of the old vertices, of the new ones, and of the old vertices that may lie on at least one new vertex, by
+ * labels that agree and equal edges with itself; but it is not below `floor`. `connected` does not change it.
+ * Accepted: the checkpoint of the first search stands in the first *value bytes of `checkpoint`, and later bytes are untouched. Refused: 27; 1 to 9; 23; 24; 13
+ * if it does not fit, never with 270 bytes. */
+uint32_t golfcedar_descend_start(const uint8_t *old_graph, size_t old_len, const uint8_t *new_graph, size_t new_len,
+                                 const uint8_t *substitutes, size_t substitutes_len, uint32_t connected, uint8_t floor,
+                                 uint8_t *checkpoint, size_t checkpoint_len, uint64_t *value);
+
+/* Goes on with a descent for `budget` visits, fewer only if it is done. `checkpoint` has exactly the bytes that an earlier call wrote: it is that of the search
+ * which the descent is in, with this search's minimum and its own steps, from 0 again in each search. To begin the next search costs no visit, so a call with
+ * budget 0 makes none and may still do so.
+ * Accepted: the next checkpoint stands in the first *value bytes of `next`, later bytes are untouched; *visits are those that this call made, in all its
+ * searches; the first 4,160 words of `workspace` are 0, later words are untouched. The descent is done when the state that `golfcedar_read_out` tells of `next`
+ * is 2 or 3, and then stays as it is, whatever the budget.
+ * If the descent began with `golfcedar_descend_start`, and all its calls took the same two graphs, substitutes and floor and were of the same search: every
+ * common subgraph, in the second search every connected one, has fewer than *ceiling vertices, and *ceiling never rises from call to call. It may be lower than
+ * the ceiling of `golfcedar_read_out`, which is the search's own at the checkpoint's minimum. A mapping, as soon as one is held, is that which a finished
+ * search with minimum `floor` holds. Done, the descent holds it, and *ceiling is its size + 1; or none, if that search holds none, and *ceiling is `floor`.
+ * Refused: what `golfcedar_resume` refuses with this checkpoint and budget, in the same order: 27; 1 to 9; 23; 24; 17; 14; 15; 16, of the steps in
+ * `checkpoint`; 13 if the next checkpoint does not fit, never with 270 bytes.
+ * A checkpoint that `golfcedar_start` or `golfcedar_resume` wrote is walked by the same rule: only where it is finished, holds nothing and has a minimum above
+ * `floor` does the next search begin; one with a lower minimum is walked to its end as by `golfcedar_resume`. Before it is done its ceiling may be too low.
+ * Each search takes at most as many visits as `golfcedar_step_limit` tells, and a descent at most that number for each minimum from the first down to `floor`. */
+uint32_t golfcedar_descend_resume(const uint8_t *old_graph, size_t old_len, const uint8_t *new_graph, size_t new_len,
+                                  const uint8_t *substitutes, size_t substitutes_len, uint32_t connected, uint8_t floor,
+                                  const uint8_t *checkpoint, size_t checkpoint_len, uint64_t budget, uint64_t *workspace,
+                                  size_t workspace_words, uint8_t *next, size_t next_len, uint64_t *value, uint64_t *ceiling,
+                                  uint64_t *visits);
 
 /* The whole first search in one call, for an old graph of at most eight vertices: by clique branching, which holds the mapping that a finished first search with
  * this `minimum` holds, connected or not. Accepted: *value is 1 if a mapping is held; then *size is its size, one byte for each old vertex is stored to

@@ -10,6 +10,7 @@ pub struct Answer {
     pub steps: u64,
     pub size: u64,
     pub ceiling: u64,
+    pub visits: u64,
 }
 
 impl Answer {

@@ -9,7 +9,7 @@ use crate::library::FIRST_SEARCH;
 use crate::reference::{Edition, Graph, Reason, Refusal, UNMAPPED, WORKSPACE_WORDS};
 use crate::{library, reference};
 
-/// The nine functions of include/golfcedar.h.
+/// The eleven functions of include/golfcedar.h.
 #[allow(clippy::type_complexity)]
 pub struct Implementation {
     pub name: &'static str,
@@ -18,6 +18,9 @@ pub struct Implementation {
     pub start: fn(&[u8], &[u8], &[u8], u32, u8, &mut [u8]) -> Answer,
     pub resume: fn(&[u8], &[u8], &[u8], u32, &[u8], u64, &mut [u64], &mut [u8]) -> Answer,
     pub read_out: fn(&[u8], &[u8], &[u8], u32, &[u8], &mut [u8]) -> Answer,
+    pub descend_start: fn(&[u8], &[u8], &[u8], u32, u8, &mut [u8]) -> Answer,
+    pub descend_resume:
+        fn(&[u8], &[u8], &[u8], u32, u8, &[u8], u64, &mut [u64], &mut [u8]) -> Answer,
     pub clique: fn(&[u8], &[u8], &[u8], u8, &mut [u8]) -> Answer,
     pub step_limit: fn(u64, u64) -> Answer,
     pub to_edition_2: fn(&[u8], &mut [u8]) -> Answer,
@@ -31,6 +34,8 @@ pub const LIBRARY: Implementation = Implementation {
     start: library::start,
     resume: library::resume,
     read_out: library::read_out,
+    descend_start: library::descend_start,
+    descend_resume: library::descend_resume,
     clique: library::clique,
     step_limit: library::step_limit,
     to_edition_2: library::to_edition_2,
@@ -44,6 +49,8 @@ pub const REFERENCE: Implementation = Implementation {
     start: reference::start,
     resume: reference::resume,
     read_out: reference::read_out,
+    descend_start: reference::descend_start,
+    descend_resume: reference::descend_resume,
     clique: reference::clique,
     step_limit: reference::step_limit,
     to_edition_2: reference::to_edition_2,
@@ -138,6 +145,12 @@ pub enum Call {
         minimum: u8,
         checkpoint: Buffer<u8>,
     },
+    DescendStart {
+        given: Given,
+        connected: u32,
+        floor: u8,
+        checkpoint: Buffer<u8>,
+    },
     Resume(Resume),
     ReadOut {
         given: Given,
@@ -157,6 +170,8 @@ pub enum Call {
 pub struct Resume {
     pub given: Given,
     pub connected: u32,
+    /// Of a descent; none for a search.
+    pub floor: Option<u8>,
     pub checkpoint: Vec<u8>,
     pub budget: u64,
     pub workspace: Buffer<u64>,
@@ -164,14 +179,16 @@ pub struct Resume {
 }
 
 impl Resume {
-    /// The outcome of this call if it is accepted with such a checkpoint and ceiling.
-    pub fn accepted(&self, next: &[u8], ceiling: u64) -> Outcome {
+    /// The outcome of this call if it is accepted with such a checkpoint and ceiling, and after so
+    /// many visits: 0 for a search, which does not answer them.
+    pub fn accepted(&self, next: &[u8], ceiling: u64, visits: u64) -> Outcome {
         let mut memory = self.clone();
         memory.workspace.lend()[..WORKSPACE_WORDS].fill(0);
         memory.next.lend()[..next.len()].copy_from_slice(next);
         Outcome {
             answer: Answer {
                 ceiling,
+                visits,
                 ..Answer::accepted(next.len() as u64)
             },
             memory: Call::Resume(memory),
@@ -282,16 +299,42 @@ impl Call {
                 *minimum,
                 checkpoint.lend(),
             ),
-            Call::Resume(call) => (by.resume)(
-                &call.given.old,
-                &call.given.new,
-                &call.given.substitutes,
-                call.connected,
-                &call.checkpoint,
-                call.budget,
-                call.workspace.lend(),
-                call.next.lend(),
+            Call::DescendStart {
+                given,
+                connected,
+                floor,
+                checkpoint,
+            } => (by.descend_start)(
+                &given.old,
+                &given.new,
+                &given.substitutes,
+                *connected,
+                *floor,
+                checkpoint.lend(),
             ),
+            Call::Resume(call) => match call.floor {
+                None => (by.resume)(
+                    &call.given.old,
+                    &call.given.new,
+                    &call.given.substitutes,
+                    call.connected,
+                    &call.checkpoint,
+                    call.budget,
+                    call.workspace.lend(),
+                    call.next.lend(),
+                ),
+                Some(floor) => (by.descend_resume)(
+                    &call.given.old,
+                    &call.given.new,
+                    &call.given.substitutes,
+                    call.connected,
+                    floor,
+                    &call.checkpoint,
+                    call.budget,
+                    call.workspace.lend(),
+                    call.next.lend(),
+                ),
+            },
             Call::ReadOut {
                 given,
                 connected,
@@ -330,6 +373,7 @@ impl Call {
             Call::CheckGraph { .. } | Call::StepLimit { .. } | Call::Move(_) => None,
             Call::CheckMapping { given, .. }
             | Call::Start { given, .. }
+            | Call::DescendStart { given, .. }
             | Call::Resume(Resume { given, .. })
             | Call::ReadOut { given, .. }
             | Call::Clique(Clique { given, .. }) => Some(given),
@@ -341,6 +385,7 @@ impl Call {
             Call::CheckGraph { .. } | Call::StepLimit { .. } | Call::Move(_) => None,
             Call::CheckMapping { given, .. }
             | Call::Start { given, .. }
+            | Call::DescendStart { given, .. }
             | Call::Resume(Resume { given, .. })
             | Call::ReadOut { given, .. }
             | Call::Clique(Clique { given, .. }) => Some(given),
@@ -369,6 +414,7 @@ impl Call {
     pub fn for_first_search(mut self) -> Option<Call> {
         let connected = match &mut self {
             Call::Start { connected, .. }
+            | Call::DescendStart { connected, .. }
             | Call::Resume(Resume { connected, .. })
             | Call::ReadOut { connected, .. } => connected,
             _ => return None,
@@ -392,7 +438,11 @@ impl Call {
             Call::CheckGraph { .. } => "golfcedar_check_graph",
             Call::CheckMapping { .. } => "golfcedar_check_mapping",
             Call::Start { .. } => "golfcedar_start",
-            Call::Resume(_) => "golfcedar_resume",
+            Call::DescendStart { .. } => "golfcedar_descend_start",
+            Call::Resume(Resume { floor, .. }) => match floor {
+                None => "golfcedar_resume",
+                Some(_) => "golfcedar_descend_resume",
+            },
             Call::ReadOut { .. } => "golfcedar_read_out",
             Call::Clique(_) => "golfcedar_clique",
             Call::StepLimit { .. } => "golfcedar_step_limit",
@@ -430,13 +480,26 @@ impl Call {
                 ("minimum", minimum.to_string()),
                 ("checkpoint", checkpoint.to_string()),
             ]),
-            Call::Resume(call) => arguments.extend([
-                ("connected", call.connected.to_string()),
-                ("checkpoint", Listed(&call.checkpoint).to_string()),
-                ("budget", call.budget.to_string()),
-                ("workspace", call.workspace.to_string()),
-                ("next", call.next.to_string()),
+            Call::DescendStart {
+                connected,
+                floor,
+                checkpoint,
+                ..
+            } => arguments.extend([
+                ("connected", connected.to_string()),
+                ("floor", floor.to_string()),
+                ("checkpoint", checkpoint.to_string()),
             ]),
+            Call::Resume(call) => {
+                arguments.push(("connected", call.connected.to_string()));
+                arguments.extend(call.floor.map(|floor| ("floor", floor.to_string())));
+                arguments.extend([
+                    ("checkpoint", Listed(&call.checkpoint).to_string()),
+                    ("budget", call.budget.to_string()),
+                    ("workspace", call.workspace.to_string()),
+                    ("next", call.next.to_string()),
+                ]);
+            }
             Call::ReadOut {
                 connected,
                 checkpoint,

@@ -16,6 +16,7 @@
 //! a fifth faster, but then the time of a visit would say little.
 
 pub mod clique;
+pub mod descend;
 
 use std::array;
 use std::collections::BTreeMap;

@@ -72,6 +72,41 @@ mod c {
             ceiling: *mut u64,
         ) -> u32;
 
+        pub fn golfcedar_descend_start(
+            old_graph: *const u8,
+            old_len: usize,
+            new_graph: *const u8,
+            new_len: usize,
+            substitutes: *const u8,
+            substitutes_len: usize,
+            connected: u32,
+            floor: u8,
+            checkpoint: *mut u8,
+            checkpoint_len: usize,
+            value: *mut u64,
+        ) -> u32;
+
+        pub fn golfcedar_descend_resume(
+            old_graph: *const u8,
+            old_len: usize,
+            new_graph: *const u8,
+            new_len: usize,
+            substitutes: *const u8,
+            substitutes_len: usize,
+            connected: u32,
+            floor: u8,
+            checkpoint: *const u8,
+            checkpoint_len: usize,
+            budget: u64,
+            workspace: *mut u64,
+            workspace_words: usize,
+            next: *mut u8,
+            next_len: usize,
+            value: *mut u64,
+            ceiling: *mut u64,
+            visits: *mut u64,
+        ) -> u32;
+
         pub fn golfcedar_clique(
             old_graph: *const u8,
             old_len: usize,
@@ -266,6 +301,81 @@ pub fn read_out(
         steps,
         size,
         ceiling,
+        ..Answer::default()
+    }
+}
+
+pub fn descend_start(
+    old: &[u8],
+    new: &[u8],
+    substitutes: &[u8],
+    connected: u32,
+    floor: u8,
+    checkpoint: &mut [u8],
+) -> Answer {
+    let mut value = NOT_STORED;
+    let number = unsafe {
+        c::golfcedar_descend_start(
+            old.as_ptr(),
+            old.len(),
+            new.as_ptr(),
+            new.len(),
+            substitutes.as_ptr(),
+            substitutes.len(),
+            connected,
+            floor,
+            checkpoint.as_mut_ptr(),
+            checkpoint.len(),
+            &raw mut value,
+        )
+    };
+    Answer {
+        number,
+        value,
+        ..Answer::default()
+    }
+}
+
+#[allow(clippy::too_many_arguments)]
+pub fn descend_resume(
+    old: &[u8],
+    new: &[u8],
+    substitutes: &[u8],
+    connected: u32,
+    floor: u8,
+    checkpoint: &[u8],
+    budget: u64,
+    workspace: &mut [u64],
+    next: &mut [u8],
+) -> Answer {
+    let [mut value, mut ceiling, mut visits] = [NOT_STORED; 3];
+    let number = unsafe {
+        c::golfcedar_descend_resume(
+            old.as_ptr(),
+            old.len(),
+            new.as_ptr(),
+            new.len(),
+            substitutes.as_ptr(),
+            substitutes.len(),
+            connected,
+            floor,
+            checkpoint.as_ptr(),
+            checkpoint.len(),
+            budget,
+            workspace.as_mut_ptr(),
+            workspace.len(),
+            next.as_mut_ptr(),
+            next.len(),
+            &raw mut value,
+            &raw mut ceiling,
+            &raw mut visits,
+        )
+    };
+    Answer {
+        number,
+        value,
+        ceiling,
+        visits,
         ..Answer::default()
     }
 }

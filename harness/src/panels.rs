@@ -17,9 +17,7 @@ pub fn problem(random: &mut Random, order: usize, vertex_labels: u16, holding: u
     let mut panel = Panel::random(random, order, &vertex_labels);
     let mut copy = panel.clone();
     copy.change(random, &vertex_labels);
-    let numbers: Vec<usize> = (0..order).collect();
-    let mut shuffled = numbers.clone();
-    random.shuffle(&mut shuffled);
+    let [numbers, shuffled] = numberings(random, order);
     // drawn last: all else is the same whether there are own edges or not
     if holding > 0 {
         let mut own_edge = || match random.percent(holding) {
@@ -36,6 +34,30 @@ pub fn problem(random: &mut Random, order: usize, vertex_labels: u16, holding: u
         new: copy.graph(&shuffled),
         substitutes: Substitutes::default(),
     }
+}
+
+/// A panel, and a copy of it after so many edits, in another numbering.
+pub fn edited(random: &mut Random, order: usize, vertex_labels: u16, edits: usize) -> Problem {
+    let vertex_labels: Vec<u16> = (1..=vertex_labels).collect();
+    let panel = Panel::random(random, order, &vertex_labels);
+    let mut copy = panel.clone();
+    for _ in 0..edits {
+        copy.edit(random, &vertex_labels);
+    }
+    let [numbers, shuffled] = numberings(random, order);
+    Problem {
+        old: panel.graph(&numbers),
+        new: copy.graph(&shuffled),
+        substitutes: Substitutes::default(),
+    }
+}
+
+/// That of a panel, and another one.
+fn numberings(random: &mut Random, order: usize) -> [Vec<usize>; 2] {
+    let numbers: Vec<usize> = (0..order).collect();
+    let mut shuffled = numbers.clone();
+    random.shuffle(&mut shuffled);
+    [numbers, shuffled]
 }
 
 #[derive(Clone)]
@@ -66,13 +88,15 @@ impl Panel {
         panel
     }
 
-    /// To any vertex that it has none to.
+    /// To any vertex that it has none to, if there is one.
     fn add_edge_of(&mut self, random: &mut Random, vertex: usize) {
         let between = |end: usize| (vertex.min(end), vertex.max(end));
         let is_free = |&end: &usize| end != vertex && !self.edges.contains_key(&between(end));
         let ends: Vec<usize> = (0..self.labels.len()).filter(is_free).collect();
-        let end = random.pick(&ends);
-        self.edges.insert(between(end), random.pick(&EDGE_LABELS));
+        if !ends.is_empty() {
+            let end = random.pick(&ends);
+            self.edges.insert(between(end), random.pick(&EDGE_LABELS));
+        }
     }
 
     /// A changed vertex has a label of its own choice, and one of its edges leads elsewhere.
@@ -88,6 +112,19 @@ impl Panel {
                 self.edges.remove(&random.pick(&edges));
                 self.add_edge_of(random, vertex);
             }
+        }
+    }
+
+    /// A vertex has a label of its own choice, or an edge is no more, or there is one more.
+    fn edit(&mut self, random: &mut Random, vertex_labels: &[u16]) {
+        let vertex = random.within(0..self.labels.len());
+        match random.within(0..3) {
+            0 => self.labels[vertex] = random.pick(vertex_labels),
+            1 => {
+                let edges: Vec<_> = self.edges.keys().copied().collect();
+                self.edges.remove(&random.pick(&edges));
+            }
+            _ => self.add_edge_of(random, vertex),
         }
     }
 

@@ -2,17 +2,18 @@
 //! made by the library and by the second implementation.
 
 use std::collections::BTreeMap;
-use std::ops::RangeInclusive;
+use std::ops::{Range, RangeInclusive};
 
 use crate::answer::Answer;
 use crate::brute;
 use crate::call::{Buffer, Call, Clique, Given, Move, Outcome, Resume, LIBRARY, REFERENCE};
 use crate::cases::{self, ANY_ORDER};
-use crate::fast;
+use crate::fast::{self, descend::Descent};
 use crate::library::{CLIQUE_VERTICES, FIRST_SEARCH, GRAPH_BYTES};
+use crate::panels;
 use crate::random::Random;
-use crate::reference::{advance, ceiling, entries_from_bytes, entries_to_bytes, Checkpoint};
-use crate::reference::{Edition, Graph, Problem, Sought, Substitutes};
+use crate::reference::{advance, ceiling, descend, entries_from_bytes, entries_to_bytes};
+use crate::reference::{Checkpoint, Edition, Graph, Problem, Sought, Substitutes};
 use crate::reference::{CHECKPOINT_BYTES, MAX_VERTICES, WORKSPACE_WORDS};
 
 /// The error is what to print about a disagreement.
@@ -28,26 +29,37 @@ pub struct Kind {
     scenario: Scenario,
 }
 
-pub const KINDS: [Kind; 18] = [
-    kind("graph", 120, graph),
-    kind("mover", 60, mover),
-    kind("moved", 10, moved),
-    kind("mapping", 150, mapping),
-    kind("start", 50, start),
-    kind("room", 40, room),
-    kind("crafted", 140, crafted),
-    kind("damaged", 130, damaged),
-    kind("small", 130, small),
-    kind("relisted", 30, relisted),
-    kind("rewired", 20, rewired),
-    kind("crossed", 30, crossed),
-    kind("middle", 22, middle),
+pub const KINDS: [Kind; 24] = [
+    kind("graph", 102, graph),
+    kind("mover", 51, mover),
+    kind("moved", 9, moved),
+    kind("mapping", 128, mapping),
+    kind("start", 43, start),
+    kind("room", 34, room),
+    kind("crafted", 119, crafted),
+    kind("damaged", 111, damaged),
+    kind("small", 111, small),
+    kind("relisted", 26, relisted),
+    kind("rewired", 17, rewired),
+    kind("crossed", 26, crossed),
+    kind("middle", 19, middle),
     kind("large", 3, large),
     kind("long", 5, long),
-    kind("clique", 40, clique),
-    kind("crowded", 15, crowded),
+    kind("clique", 34, clique),
+    kind("crowded", 13, crowded),
     kind("limit", 5, limit),
+    kind("floor", 20, floor),
+    kind("whole", 50, whole),
+    kind("panel", 15, panel),
+    kind("deep", 4, deep),
+    kind("handed", 25, handed),
+    kind("lent", 30, lent),
 ];
+
+/// A search that the fast walk is through with after so many visits is made beside a descent.
+const SOON: u64 = 200_000;
+/// How often a call begins anew is counted up to here.
+pub const MANY: u32 = 3;
 
 const fn kind(name: &'static str, share: usize, scenario: Scenario) -> Kind {
     Kind {
@@ -85,6 +97,8 @@ pub struct Judge {
     pub islands: BTreeMap<(u32, u32), u64>,
     /// How often each search made an accepted call on a checkpoint, the first search's first.
     pub searches: [u64; 2],
+    /// How often a call of a descent began anew so many times. `MANY` stands for more too.
+    pub beginnings: BTreeMap<u32, u64>,
     /// Print the calls that agree too.
     pub aloud: bool,
 }
@@ -115,6 +129,9 @@ impl Judge {
         }
         if let (Some(connected), true) = (call.connected(), expected.answer.is_accepted()) {
             self.searches[usize::from(connected != FIRST_SEARCH)] += 1;
+        }
+        if let Some(times) = beginnings(&call, &expected) {
+            *self.beginnings.entry(times.min(MANY)).or_default() += 1;
         }
         let both = || {
             let [library, wanted] = [&outcome, &expected].map(|outcome| outcome.describe(&call));
@@ -185,6 +202,19 @@ fn refused_for_islands(call: &Call, expected: &Outcome) -> Option<u32> {
     let first = call.clone().for_first_search()?;
     let number = first.made_by(&REFERENCE).answer.number;
     (number != 14).then_some(number)
+}
+
+/// How often an accepted call of a descent began anew: by so much it lowered the minimum, which is
+/// the second byte of a checkpoint.
+fn beginnings(call: &Call, expected: &Outcome) -> Option<u32> {
+    match (call, &expected.memory) {
+        (Call::Resume(call), Call::Resume(memory))
+            if call.floor.is_some() && expected.answer.is_accepted() =>
+        {
+            Some((call.checkpoint[1] - memory.next.lent()[1]).into())
+        }
+        _ => None,
+    }
 }
 
 /// The first search, or the second one by any number that says so.
@@ -264,16 +294,28 @@ fn mapping(judge: &mut Judge, random: &mut Random) -> Verdict<()> {
 fn start(judge: &mut Judge, random: &mut Random) -> Verdict<()> {
     let problem = cases::problem(random, 0..6);
     let mut given = given(random, &problem);
-    if random.percent(30) {
-        damage_graph(random, &mut given);
-    }
-    if random.percent(30) {
-        cases::spoil_substitutes(random, &mut given.substitutes);
-    }
+    spoil_given(random, &mut given);
     let call = Call::Start {
         given,
         connected: any_search(random),
         minimum: random.byte(),
+        checkpoint: output(random, CHECKPOINT_BYTES, 20),
+    };
+    judge.compare(call).map(drop)
+}
+
+/// The start of a descent, with floors on both sides of the orders.
+fn floor(judge: &mut Judge, random: &mut Random) -> Verdict<()> {
+    let most = random.pick(&[4, 9, 9, 20, ANY_ORDER]);
+    let problem = cases::problem(random, 0..most);
+    let mut given = given(random, &problem);
+    spoil_given(random, &mut given);
+    let order = problem.old.order() as u8;
+    let any = random.byte();
+    let call = Call::DescendStart {
+        given,
+        connected: any_search(random),
+        floor: random.pick(&[0, 0, 1, order / 2, order, order + 1, 64, 65, 255, any]),
         checkpoint: output(random, CHECKPOINT_BYTES, 20),
     };
     judge.compare(call).map(drop)
@@ -287,16 +329,22 @@ fn room(judge: &mut Judge, random: &mut Random) -> Verdict<()> {
     let fresh = Checkpoint::fresh(random.within(0..4) as u8);
     let cut = advance(&problem, sought, &fresh, random.within(0..60) as u64);
     let budget = random.within(0..60) as u64;
-    let caller = Caller::with(random, &problem, connected, cut.save());
+    let mut caller = Caller::with(random, &problem, connected, cut.save());
 
-    let saved = advance(&problem, sought, &cut, budget).save().len();
-    for length in near(saved) {
-        let mut call = caller.resume_call(random, budget);
-        if random.percent(30) {
-            spoil(random, &mut call, cut.steps);
+    for floor in [Some(any_floor(random, cut.minimum)), None] {
+        caller.floor = floor;
+        let after = match floor {
+            Some(floor) => descend(&problem, sought, floor, cut.clone(), budget).0,
+            None => advance(&problem, sought, &cut, budget),
+        };
+        for length in near(after.save().len()) {
+            let mut call = caller.resume_call(random, budget);
+            if random.percent(30) {
+                spoil(random, &mut call, cut.steps);
+            }
+            call.next = pattern(random, length, CHECKPOINT_BYTES);
+            judge.compare(Call::Resume(call))?;
         }
-        call.next = pattern(random, length, CHECKPOINT_BYTES);
-        judge.compare(Call::Resume(call))?;
     }
     let held = cut.incumbent.as_ref().map_or(0, Vec::len);
     for length in near(held) {
@@ -313,12 +361,7 @@ fn room(judge: &mut Judge, random: &mut Random) -> Verdict<()> {
     }
     for length in near(fresh.save().len()) {
         let mut given = caller.given.clone();
-        if random.percent(30) {
-            damage_graph(random, &mut given);
-        }
-        if random.percent(30) {
-            cases::spoil_substitutes(random, &mut given.substitutes);
-        }
+        spoil_given(random, &mut given);
         judge.compare(Call::Start {
             given,
             connected,
@@ -335,6 +378,28 @@ fn near(needed: usize) -> RangeInclusive<usize> {
 
 /// Checkpoints that no walk made, in shape or nearly so.
 fn crafted(judge: &mut Judge, random: &mut Random) -> Verdict<()> {
+    go_on_crafted(judge, random, |_, _| None)
+}
+
+/// A search cut at a random visit, and its checkpoint's bytes damaged.
+fn damaged(judge: &mut Judge, random: &mut Random) -> Verdict<()> {
+    go_on_damaged(judge, random, |_, _| None)
+}
+
+/// Both, lent to a descent.
+fn lent(judge: &mut Judge, random: &mut Random) -> Verdict<()> {
+    let floor = |random: &mut Random, minimum| Some(any_floor(random, minimum));
+    match random.percent(60) {
+        true => go_on_crafted(judge, random, floor),
+        false => go_on_damaged(judge, random, floor),
+    }
+}
+
+fn go_on_crafted(
+    judge: &mut Judge,
+    random: &mut Random,
+    floor: impl Fn(&mut Random, u8) -> Option<u8>,
+) -> Verdict<()> {
     let orders = match random.within(0..100) {
         0 => 60..ANY_ORDER,
         1..15 => 0..3,
@@ -348,6 +413,7 @@ fn crafted(judge: &mut Judge, random: &mut Random) -> Verdict<()> {
     }
     let connected = any_search(random);
     let mut caller = Caller::with(random, &problem, connected, checkpoint.save());
+    caller.floor = floor(random, checkpoint.minimum);
     if random.percent(5) {
         cases::spoil_substitutes(random, &mut caller.given.substitutes);
     }
@@ -362,8 +428,11 @@ fn crafted(judge: &mut Judge, random: &mut Random) -> Verdict<()> {
     caller.read_out(judge, random)
 }
 
-/// A search cut at a random visit, and its checkpoint's bytes damaged.
-fn damaged(judge: &mut Judge, random: &mut Random) -> Verdict<()> {
+fn go_on_damaged(
+    judge: &mut Judge,
+    random: &mut Random,
+    floor: impl Fn(&mut Random, u8) -> Option<u8>,
+) -> Verdict<()> {
     let problem = cases::problem(random, 0..8);
     let fresh = Checkpoint::fresh(random.within(0..4) as u8);
     let connected = any_search(random);
@@ -373,30 +442,132 @@ fn damaged(judge: &mut Judge, random: &mut Random) -> Verdict<()> {
         cases::damage(random, &mut checkpoint);
     }
     let mut caller = Caller::with(random, &problem, connected, checkpoint);
+    caller.floor = floor(random, fresh.minimum);
     if random.percent(5) {
         cases::spoil_substitutes(random, &mut caller.given.substitutes);
     }
     caller.read_out(judge, random)?;
     let budget = random.within(0..60) as u64;
-    caller.resume(judge, random, budget)
+    caller.resume(judge, random, budget).map(drop)
 }
 
 /// Whole searches, against brute force too.
 fn small(judge: &mut Judge, random: &mut Random) -> Verdict<()> {
     let problem = cases::problem(random, 0..6);
     let minimum = random.pick(&[0, 0, 1, 2, 3, 5, 255]);
-    let budgets = |random: &mut Random, steps| match random.within(0..12) {
-        0 => random.pick(&[u64::MAX - steps, 1 << 32, 1 << 63]),
-        1..4 => random.within(0..200) as u64,
-        _ => random.within(0..12) as u64,
-    };
     let connected = any_search(random);
-    let last = session(judge, random, &problem, connected, minimum, 12, budgets)?;
+    let last = session(judge, random, &problem, connected, minimum, 12, any_budget)?;
     if last.finished {
         agrees_with_brute_force(&problem, Sought::from_flag(connected), &last)
     } else {
         Ok(())
     }
+}
+
+/// For a search of few visits, which has made so many.
+fn any_budget(random: &mut Random, steps: u64) -> u64 {
+    match random.within(0..12) {
+        0 => random.pick(&[u64::MAX - steps, 1 << 32, 1 << 63]),
+        1..4 => random.within(0..200) as u64,
+        _ => random.within(0..12) as u64,
+    }
+}
+
+/// Whole descents, against brute force too.
+fn whole(judge: &mut Judge, random: &mut Random) -> Verdict<()> {
+    let problem = cases::problem(random, 0..6);
+    let floor = random.pick(&[0, 0, 0, 1, 1, 2, 3, 5, 6, 255]);
+    let connected = any_search(random);
+    let last = descent(judge, random, &problem, connected, floor, 12, any_budget)?;
+    if last.finished {
+        agrees_with_brute_force(&problem, Sought::from_flag(connected), &last)
+    } else {
+        Ok(())
+    }
+}
+
+/// Descents of panels and of other graphs, often stopped before they are done.
+fn panel(judge: &mut Judge, random: &mut Random) -> Verdict<()> {
+    let problem = match random.within(0..10) {
+        0 => cases::problem(random, 40..ANY_ORDER),
+        1..4 => cases::problem(random, 6..25),
+        _ => any_panel(random, 6..25),
+    };
+    let floor = random.pick(&[0, 0, 1, 1, 3, 5, 8]);
+    let budgets = |random: &mut Random, _| match random.within(0..10) {
+        0 => 0,
+        1..7 => random.within(1..30) as u64,
+        _ => random.within(30..400) as u64,
+    };
+    let connected = any_search(random);
+    descent(judge, random, &problem, connected, floor, 7, budgets).map(drop)
+}
+
+/// Descents so long that only the fast one keeps up.
+fn deep(judge: &mut Judge, random: &mut Random) -> Verdict<()> {
+    let problem = match random.percent(40) {
+        true => cases::problem(random, 20..ANY_ORDER),
+        false => any_panel(random, 24..ANY_ORDER),
+    };
+    let floor = random.pick(&[0, 1, 5, 10]);
+    let connected = any_search(random);
+    let mut caller = Caller::descend_start(judge, random, &problem, connected, floor)?;
+    let mut fast = Descent::start(&problem, Sought::from_flag(connected), floor);
+    for _ in 0..3 {
+        let budget = random.within(0..60_000) as u64;
+        let visits = fast.advance(budget);
+        let next = fast.checkpoint().save();
+        let call = caller.resume_call(random, budget);
+        let expected = call.accepted(&next, fast.ceiling() as u64, visits);
+        judge.compare_with(Call::Resume(call), expected)?;
+        caller.checkpoint = next;
+    }
+    Ok(())
+}
+
+fn any_panel(random: &mut Random, orders: Range<usize>) -> Problem {
+    let order = random.within(orders);
+    let labels = random.pick(&[3, 4, 6, 8, 12]);
+    match random.percent(50) {
+        true => panels::edited(random, order, labels, order / 5),
+        false => panels::problem(random, order, labels, 20),
+    }
+}
+
+/// A search that goes on as a descent, and then as a search again, or with another floor: each goes on
+/// by its own rule from what the other left.
+fn handed(judge: &mut Judge, random: &mut Random) -> Verdict<()> {
+    let problem = cases::problem(random, 0..8);
+    let connected = any_search(random);
+    let minimum = random.pick(&[0, 1, 2, 3, 4, 6, 9, 255]);
+    let mut caller = match random.percent(60) {
+        true => Caller::start(judge, random, &problem, connected, minimum)?,
+        false => Caller::descend_start(judge, random, &problem, connected, minimum)?,
+    };
+    for _ in 0..random.within(2..7) {
+        let last = caller.load(&problem)?;
+        caller.floor = match random.percent(60) {
+            true => Some(any_floor(random, last.minimum)),
+            false => None,
+        };
+        let budget = match random.within(0..5) {
+            0 => 0,
+            1 => u64::MAX - last.steps,
+            _ => random.within(0..40) as u64,
+        };
+        if random.percent(35) {
+            caller.spoilt_resume(judge, random, budget, last.steps)?;
+        }
+        caller.resume(judge, random, budget)?;
+        caller.read_out(judge, random)?;
+    }
+    Ok(())
+}
+
+/// Below this minimum, at it, or above.
+fn any_floor(random: &mut Random, minimum: u8) -> u8 {
+    let (below, above) = (minimum.saturating_sub(1), minimum.saturating_add(1));
+    random.pick(&[0, 0, 0, 1, 2, 3, below, below, minimum, above, 255])
 }
 
 /// A search that goes on under another list, and then under the first one again. To either list
@@ -497,7 +668,7 @@ fn long(judge: &mut Judge, random: &mut Random) -> Verdict<()> {
         search.advance(budget);
         let next = search.checkpoint().save();
         let call = caller.resume_call(random, budget);
-        let expected = call.accepted(&next, search.ceiling() as u64);
+        let expected = call.accepted(&next, search.ceiling() as u64, 0);
         judge.compare_with(Call::Resume(call), expected)?;
         caller.checkpoint = next;
     }
@@ -636,6 +807,85 @@ fn session(
     }
 }
 
+/// A list of calls of a descent from its start, refused ones among them. It must lead where one
+/// descent leads that is never stopped, in as many visits, by ceilings that do not rise; and where
+/// the search from the floor leads, if that is soon through.
+fn descent(
+    judge: &mut Judge,
+    random: &mut Random,
+    problem: &Problem,
+    connected: u32,
+    floor: u8,
+    calls: usize,
+    budgets: impl Fn(&mut Random, u64) -> u64,
+) -> Verdict<Checkpoint> {
+    let sought = Sought::from_flag(connected);
+    let mut search = fast::Search::start(problem, sought, floor);
+    search.advance(SOON);
+    let search = Some(search.checkpoint()).filter(|search| search.finished);
+    let mut caller = Caller::descend_start(judge, random, problem, connected, floor)?;
+    let start = caller.load(problem)?;
+    let mut last = start.clone();
+    let mut ceiling = u64::MAX;
+    let [mut granted, mut visits] = [0u64; 2];
+    for _ in 0..calls {
+        let was_done = last.finished;
+        let budget = budgets(random, last.steps);
+        if random.percent(35) {
+            caller.spoilt_resume(judge, random, budget, last.steps)?;
+        }
+        let answer = caller.resume(judge, random, budget)?;
+        granted = granted.saturating_add(budget);
+        visits += answer.visits;
+        if random.percent(35) {
+            caller.read_out(judge, random)?;
+        }
+        last = caller.load(problem)?;
+        if answer.ceiling > ceiling {
+            return Err(format!("{last:?}: the ceiling rises, from {ceiling}"));
+        }
+        ceiling = answer.ceiling;
+        if let Some(search) = &search {
+            leads_to(search, &last, ceiling)?;
+        }
+        if was_done {
+            break;
+        }
+    }
+    if let Some(incumbent) = &last.incumbent {
+        caller.check_mapping(judge, entries_to_bytes(incumbent))?;
+    }
+    if last.finished {
+        within_limit(judge, problem, &last)?;
+    }
+    let unbroken = descend(problem, sought, floor, start, granted);
+    let due = if last.finished { unbroken.1 } else { granted };
+    if (&last, visits) == (&unbroken.0, due) {
+        Ok(last)
+    } else {
+        Err(format!(
+            "the calls lead to {last:?} in {visits} visits, one descent to {unbroken:?}"
+        ))
+    }
+}
+
+/// A descent holds nothing, or already what the search from its floor holds at the end; done, it holds
+/// that, and has its ceiling.
+fn leads_to(search: &Checkpoint, descent: &Checkpoint, ceiling: u64) -> Verdict<()> {
+    let (held, due) = (&descent.incumbent, search.cutoff() as u64);
+    let is_led = match descent.finished {
+        true => *held == search.incumbent && ceiling == due,
+        false => (held.is_none() || *held == search.incumbent) && ceiling >= due,
+    };
+    if is_led {
+        Ok(())
+    } else {
+        Err(format!(
+            "{descent:?}, ceiling {ceiling}, but the search leads to {search:?}"
+        ))
+    }
+}
+
 /// What is held at the end, and the ceiling: one above its size, or the minimum if none is held.
 fn agrees_with_brute_force(
     problem: &Problem,
@@ -662,6 +912,8 @@ fn agrees_with_brute_force(
 struct Caller {
     given: Given,
     connected: u32,
+    /// Of a descent; none for a search.
+    floor: Option<u8>,
     checkpoint: Vec<u8>,
 }
 
@@ -670,6 +922,7 @@ impl Caller {
         Caller {
             given: given(random, problem),
             connected,
+            floor: None,
             checkpoint,
         }
     }
@@ -681,21 +934,45 @@ impl Caller {
         connected: u32,
         minimum: u8,
     ) -> Verdict<Caller> {
-        let mut caller = Caller::with(random, problem, connected, Vec::new());
+        let caller = Caller::with(random, problem, connected, Vec::new());
         let outcome = judge.compare(Call::Start {
             given: caller.given.clone(),
             connected,
             minimum,
             checkpoint: output(random, CHECKPOINT_BYTES, 0),
         })?;
-        if let Call::Start { checkpoint, .. } = outcome.memory {
-            caller.checkpoint = written(&outcome.answer, &checkpoint);
+        Ok(caller.started(outcome))
+    }
+
+    fn descend_start(
+        judge: &mut Judge,
+        random: &mut Random,
+        problem: &Problem,
+        connected: u32,
+        floor: u8,
+    ) -> Verdict<Caller> {
+        let mut caller = Caller::with(random, problem, connected, Vec::new());
+        caller.floor = Some(floor);
+        let outcome = judge.compare(Call::DescendStart {
+            given: caller.given.clone(),
+            connected,
+            floor,
+            checkpoint: output(random, CHECKPOINT_BYTES, 0),
+        })?;
+        Ok(caller.started(outcome))
+    }
+
+    fn started(mut self, outcome: Outcome) -> Caller {
+        if let Call::Start { checkpoint, .. } | Call::DescendStart { checkpoint, .. } =
+            outcome.memory
+        {
+            self.checkpoint = written(&outcome.answer, &checkpoint);
         }
-        Ok(caller)
+        self
     }
 
     /// The next checkpoint takes the place of this one, unless the call is refused.
-    fn resume(&mut self, judge: &mut Judge, random: &mut Random, budget: u64) -> Verdict<()> {
+    fn resume(&mut self, judge: &mut Judge, random: &mut Random, budget: u64) -> Verdict<Answer> {
         let call = Call::Resume(self.resume_call(random, budget));
         let outcome = judge.compare(call)?;
         match outcome.memory {
@@ -704,7 +981,7 @@ impl Caller {
             }
             _ => {}
         }
-        Ok(())
+        Ok(outcome.answer)
     }
 
     /// A call with one thing or more wrong in it. What it answers is compared, and dropped.
@@ -727,6 +1004,7 @@ impl Caller {
         Resume {
             given: self.given.clone(),
             connected: self.connected,
+            floor: self.floor,
             checkpoint: self.checkpoint.clone(),
             budget,
             workspace: workspace(random, WORKSPACE_WORDS + spare),
@@ -813,6 +1091,16 @@ fn given(random: &mut Random, problem: &Problem) -> Given {
         old: cases::graph_bytes(random, &problem.old),
         new: cases::graph_bytes(random, &problem.new),
         substitutes: problem.substitutes.save(),
+    }
+}
+
+/// At times damages a graph, makes the list unsound, or does both.
+fn spoil_given(random: &mut Random, given: &mut Given) {
+    if random.percent(30) {
+        damage_graph(random, given);
+    }
+    if random.percent(30) {
+        cases::spoil_substitutes(random, &mut given.substitutes);
     }
 }
 

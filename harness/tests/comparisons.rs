@@ -26,7 +26,7 @@ fn each_kind_agrees() {
 
 /// Each function on two graphs of 64 vertices and all edges, and on a full list, for this search if it
 /// takes one; clique branching on as many old vertices as it takes.
-fn heavy_calls(connected: u32) -> [Call; 9] {
+fn heavy_calls(connected: u32) -> [Call; 11] {
     let style = Style {
         vertex_labels: vec![7],
         edge_labels: vec![1, 2],
@@ -40,6 +40,15 @@ fn heavy_calls(connected: u32) -> [Call; 9] {
         substitutes: vec![9; SUBSTITUTES_BYTES],
     };
     let checkpoint = Checkpoint::fresh(0).save();
+    let resume = Resume {
+        given: given.clone(),
+        connected,
+        floor: None,
+        checkpoint: checkpoint.clone(),
+        budget: 1_000,
+        workspace: Buffer::filled(1, WORKSPACE_WORDS, WORKSPACE_WORDS),
+        next: Buffer::filled(0, CHECKPOINT_BYTES, CHECKPOINT_BYTES),
+    };
     [
         Call::CheckGraph {
             graph: given.old.clone(),
@@ -52,6 +61,12 @@ fn heavy_calls(connected: u32) -> [Call; 9] {
             given: given.clone(),
             connected,
             minimum: 0,
+            checkpoint: Buffer::filled(0, CHECKPOINT_BYTES, CHECKPOINT_BYTES),
+        },
+        Call::DescendStart {
+            given: given.clone(),
+            connected,
+            floor: 0,
             checkpoint: Buffer::filled(0, CHECKPOINT_BYTES, CHECKPOINT_BYTES),
         },
         Call::ReadOut {
@@ -67,14 +82,13 @@ fn heavy_calls(connected: u32) -> [Call; 9] {
         },
         Call::Move(full_move(Edition::One, &full(1))),
         Call::Move(full_move(Edition::Two, &full(1))),
+        // begins anew
         Call::Resume(Resume {
-            given,
-            connected,
-            checkpoint,
-            budget: 1_000,
-            workspace: Buffer::filled(1, WORKSPACE_WORDS, WORKSPACE_WORDS),
-            next: Buffer::filled(0, CHECKPOINT_BYTES, CHECKPOINT_BYTES),
+            floor: Some(0),
+            checkpoint: Checkpoint::fresh(65).save(),
+            ..resume.clone()
         }),
+        Call::Resume(resume),
     ]
 }
 

@@ -88,7 +88,18 @@ impl Folder {
 
     /// With so many substitutes.
     fn printed_with(&self, program: &Path, pairs: &[&str], words: &[&str]) -> String {
-        let output = self.run(program, &arguments(pairs, words));
+        self.printed_by(program, &[], pairs, words)
+    }
+
+    /// With these options before them.
+    fn printed_by(
+        &self,
+        program: &Path,
+        options: &[&str],
+        pairs: &[&str],
+        words: &[&str],
+    ) -> String {
+        let output = self.run(program, &[options, &arguments(pairs, words)].concat());
         assert!(output.status.success(), "{words:?} {output:?}");
         assert!(output.stderr.is_empty(), "{words:?} {output:?}");
         assert!(!self.0.join("saved.saving").exists());
@@ -101,8 +112,18 @@ impl Folder {
     }
 
     fn refused_with(&self, program: &Path, pairs: &[&str], words: &[&str]) -> String {
+        self.refused_by(program, &[], pairs, words)
+    }
+
+    fn refused_by(
+        &self,
+        program: &Path,
+        options: &[&str],
+        pairs: &[&str],
+        words: &[&str],
+    ) -> String {
         let saved = self.saved();
-        let output = self.run(program, &arguments(pairs, words));
+        let output = self.run(program, &[options, &arguments(pairs, words)].concat());
         assert!(!output.status.success(), "{words:?} {output:?}");
         assert!(output.stdout.is_empty(), "{words:?} {output:?}");
         assert_eq!(self.saved(), saved, "{words:?}");
@@ -338,26 +359,13 @@ impl Folder {
 
     /// What an accepted run with `--connected` prints.
     fn connected(&self, program: &Path, pairs: &[&str], words: &[&str]) -> String {
-        let output = self.run(program, &connected_arguments(pairs, words));
-        assert!(output.status.success(), "{words:?} {output:?}");
-        assert!(output.stderr.is_empty(), "{words:?} {output:?}");
-        String::from_utf8(output.stdout).unwrap()
+        self.printed_by(program, &["--connected"], pairs, words)
     }
 
     /// The message of a refused run with `--connected`. The file stays as it was.
     fn connected_refused(&self, program: &Path, pairs: &[&str], words: &[&str]) -> String {
-        let saved = self.saved();
-        let output = self.run(program, &connected_arguments(pairs, words));
-        assert!(!output.status.success(), "{words:?} {output:?}");
-        assert!(output.stdout.is_empty(), "{words:?} {output:?}");
-        assert_eq!(self.saved(), saved, "{words:?}");
-        let message = String::from_utf8(output.stderr).unwrap();
-        message.strip_suffix('\n').unwrap().to_string()
+        self.refused_by(program, &["--connected"], pairs, words)
     }
-}
-
-fn connected_arguments<'a>(pairs: &[&'a str], words: &[&'a str]) -> Vec<&'a str> {
-    [&["--connected"][..], &arguments(pairs, words)].concat()
 }
 
 #[test]
@@ -487,6 +495,190 @@ fn each_program_goes_on_from_the_others_connected_file() {
     }
 }
 
+/// Three vertices of label 7 without edges, and with all.
+const UNLINKED: [u8; 12] = [4, 2, 3, 7, 0, 3, 7, 0, 3, 7, 0, 0];
+const TRIANGLE: [u8; 24] = [
+    4, 2, 3, 7, 0, 3, 7, 0, 3, 7, 0, 2, 0, 1, 1, 2, 0, 2, 1, 2, 1, 2, 1, 0,
+];
+
+impl Folder {
+    /// The triangle is to lie on vertices without edges: three searches, of 5, 9 and 11 visits.
+    fn unlike(&self) {
+        self.write("old", &TRIANGLE);
+        self.write("new", &UNLINKED);
+    }
+
+    /// What an accepted run with `--descend` prints.
+    fn descended(&self, program: &Path, words: &[&str]) -> String {
+        self.printed_by(program, &["--descend"], &[], words)
+    }
+
+    /// The message of a refused run with `--descend`. The file stays as it was.
+    fn descend_refused(&self, program: &Path, words: &[&str]) -> String {
+        self.refused_by(program, &["--descend"], &[], words)
+    }
+}
+
+/// What a finished descent from the triangle prints after so many visits of its last run.
+fn one_vertex(visits: u64) -> String {
+    format!(
+        "state finished\nvisits {visits}\nsize 1\nceiling 2\n\
+        0 maps to 0\n1 is left out\n2 is left out\n"
+    )
+}
+
+#[test]
+fn a_descent_goes_on_from_above() {
+    both("descend", |folder, program| {
+        folder.unlike();
+        for (budget, printed) in [
+            ("0", "state unfinished\nvisits 0\nsize none\nceiling 4\n"),
+            ("4", "state unfinished\nvisits 4\nsize none\nceiling 3\n"),
+            ("1", "state unfinished\nvisits 1\nsize none\nceiling 3\n"),
+            ("9", "state unfinished\nvisits 9\nsize none\nceiling 2\n"),
+        ] {
+            assert_eq!(folder.descended(program, &[budget]), printed);
+        }
+        assert_eq!(folder.descended(program, &["100"]), one_vertex(11));
+        let most = "18446744073709551615";
+        assert_eq!(folder.descended(program, &[most]), one_vertex(0));
+        fs::remove_file(folder.0.join("saved")).unwrap();
+        assert_eq!(folder.descended(program, &[most]), one_vertex(25));
+        fs::remove_file(folder.0.join("saved")).unwrap();
+        assert_eq!(
+            folder.descended(program, &["100", "2"]),
+            "state finished\nvisits 14\nsize none\nceiling 2\n"
+        );
+        fs::remove_file(folder.0.join("saved")).unwrap();
+        // with substitutes, and in the connected search, in any order
+        folder.write("new", &[4, 2, 3, 9, 0, 3, 9, 0, 3, 9, 0, 0]);
+        let orders: [&[&str]; 3] = [
+            &["--connected", "--descend", "--substitute", "7:9"],
+            &["--substitute", "7:9", "--descend", "--connected"],
+            &[
+                "--descend",
+                "--substitute",
+                "7:9",
+                "--connected",
+                "--descend",
+            ],
+        ];
+        for (options, visits) in orders.into_iter().zip([25, 0, 0]) {
+            assert_eq!(
+                folder.printed_by(program, options, &[], &["100"]),
+                one_vertex(visits)
+            );
+        }
+    });
+}
+
+#[test]
+fn a_file_of_a_descent_is_none_of_a_search() {
+    both("other-descent", |folder, program| {
+        folder.unlike();
+        for budget in ["0", "3", "100"] {
+            folder.printed(program, &[budget]);
+            assert_eq!(
+                folder.descend_refused(program, &["3"]),
+                "checkpoint saved: saved without --descend: name another file"
+            );
+            fs::remove_file(folder.0.join("saved")).unwrap();
+            folder.descended(program, &[budget, "1"]);
+            assert_eq!(
+                folder.refused(program, &["3"]),
+                "checkpoint saved: saved with --descend: name another file"
+            );
+            assert_eq!(
+                folder.connected_refused(program, &[], &["3"]),
+                "checkpoint saved: saved without --connected: name another file"
+            );
+            // the floor is that of the start, whatever the search that the descent is in
+            for (word, message) in [
+                ("0", "checkpoint saved: started with minimum 1, not 0"),
+                ("3", "checkpoint saved: started with minimum 1, not 3"),
+            ] {
+                assert_eq!(folder.descend_refused(program, &["3", word]), message);
+            }
+            folder.descended(program, &["1", "1"]);
+            assert_eq!(
+                folder.descended(program, &["100"])[..15],
+                *"state finished\n"
+            );
+            fs::remove_file(folder.0.join("saved")).unwrap();
+        }
+    });
+}
+
+/// There is a part more, the byte 2 and the floor, and no cut of the file is taken for another one.
+#[test]
+fn the_file_of_a_descent_has_its_floor() {
+    both("floor-part", |folder, program| {
+        let mut checkpoint = CHECKPOINT;
+        // the first search of the descent has minimum 2
+        checkpoint[1] = 2;
+        folder.descended(program, &["4", "1"]);
+        let whole = parts(&[&OLD, &NEW, &[], &[2, 1], &checkpoint]);
+        assert_eq!(folder.saved().unwrap(), whole);
+        let damaged: [&[&[u8]]; 9] = [
+            &[&OLD, &NEW, &[], &[2], &checkpoint],
+            &[&OLD, &NEW, &[], &[1, 2], &checkpoint],
+            &[&OLD, &NEW, &[], &[3, 1], &checkpoint],
+            &[&OLD, &NEW, &[], &[2, 1, 1], &checkpoint],
+            &[&OLD, &NEW, &[], &[2, 1], &[2, 1], &checkpoint],
+            &[&OLD, &NEW, &[], &[2, 1], &[1], &checkpoint],
+            &[&OLD, &NEW, &[], &[2, 1], &checkpoint, &[]],
+            &[&OLD, &NEW, &[], &[2, 1]],
+            // no file from before edition 2 is of a descent
+            &[&OLD_BEFORE, &NEW_BEFORE, &[], &[2, 1], &checkpoint],
+        ];
+        let cuts = (0..whole.len()).map(|length| whole[..length].to_vec());
+        for bytes in cuts.chain(damaged.map(parts)) {
+            folder.write("saved", &bytes);
+            assert_eq!(
+                folder.descend_refused(program, &["0"]),
+                "checkpoint saved: damaged, or not a file of this program",
+                "{bytes:?}"
+            );
+        }
+        let connected = parts(&[&OLD, &NEW, &[], &[1], &[2, 1], &checkpoint]);
+        folder.write("saved", &connected);
+        assert_eq!(
+            folder.descend_refused(program, &["0"]),
+            "checkpoint saved: saved with --connected: name another file"
+        );
+        let options = &["--connected", "--descend"];
+        folder.printed_by(program, options, &[], &["0", "1"]);
+        assert_eq!(folder.saved().unwrap(), connected);
+        // a floor above the search's minimum: that search is the last
+        folder.write("saved", &parts(&[&OLD, &NEW, &[], &[2, 255], &checkpoint]));
+        let last = folder.descended(program, &["100"]);
+        assert!(last.starts_with("state finished\nvisits 2\nsize 2\nceiling 3\n"));
+        checkpoint[14] = 0;
+        folder.write("saved", &parts(&[&OLD, &NEW, &[], &[2, 1], &checkpoint]));
+        for words in [&["0"][..], &["0", "1"]] {
+            assert_eq!(
+                folder.descend_refused(program, words),
+                "checkpoint saved: refused 14 (0)"
+            );
+        }
+    });
+}
+
+#[test]
+fn each_program_goes_on_from_the_others_descent() {
+    for (first, second, name) in [
+        (c_program(), rust_program(), "c-then-rust-descent"),
+        (rust_program(), c_program(), "rust-then-c-descent"),
+    ] {
+        let folder = Folder::new(name);
+        folder.unlike();
+        folder.descended(first, &["20", "1"]);
+        assert!(folder.refused(second, &["3"]).contains("with --descend"));
+        assert_eq!(folder.descended(second, &["9", "1"]), one_vertex(5));
+        assert_eq!(folder.descended(first, &["0"]), one_vertex(0));
+    }
+}
+
 #[test]
 fn only_two_labels_are_a_substitute() {
     both("substitute-word", |folder, program| {
@@ -567,6 +759,16 @@ fn the_longest_file_is_saved_and_loaded() {
         assert_eq!(folder.connected(program, &pairs, &["65"]), held);
         assert_eq!(folder.saved().unwrap().len(), longest + 3);
         assert_eq!(folder.connected(program, &pairs, &["0"]), held);
+        fs::remove_file(folder.0.join("saved")).unwrap();
+        let options = ["--connected", "--descend"];
+        let visits = held.replace("steps", "visits");
+        assert_eq!(
+            folder.printed_by(program, &options, &pairs, &["65"]),
+            visits
+        );
+        assert_eq!(folder.saved().unwrap().len(), longest + 3 + 4);
+        let visits = visits.replace("visits 65", "visits 0");
+        assert_eq!(folder.printed_by(program, &options, &pairs, &["0"]), visits);
         fs::rename(folder.0.join("first"), folder.0.join("saved")).unwrap();
         let finished = folder.printed_with(program, &pairs, &["100000"]);
         assert!(finished.starts_with("state finished\n") && finished.ends_with("63 maps to 63\n"));
@@ -799,20 +1001,23 @@ fn a_file_that_cannot_be_saved_is_refused() {
 #[test]
 fn too_few_or_too_many_arguments_are_refused() {
     both("arguments", |folder, program| {
-        let needs = "resume needs: [--connected] [--substitute LABEL:LABEL]... \
+        let needs = "resume needs: [--connected] [--descend] [--substitute LABEL:LABEL]... \
             OLD NEW CHECKPOINT BUDGET [MINIMUM]";
         for words in [
             &[][..],
             &["3", "0", "0"],
             &["3", "--substitute", "7:9"],
             &["3", "0", "--connected"],
+            &["3", "0", "--descend"],
         ] {
             assert_eq!(folder.refused(program, words), needs);
             assert_eq!(folder.refused_with(program, &["7:9"], words), needs);
         }
-        let wrong: [&[&str]; 4] = [
+        let wrong: [&[&str]; 6] = [
             &["--substitute"],
             &["--connected"],
+            &["--descend"],
+            &["--descend", "old", "new", "saved"],
             &["--connected", "--substitute"],
             &["--connected", "old", "new", "saved"],
         ];

@@ -1,13 +1,13 @@
-//! The reference against brute force and against its own clique branching, and the fast walk against
-//! the reference.
+//! The reference against brute force and against its own clique branching, and the fast walk and the
+//! fast descent against the reference.
 
 use harness::brute;
 use harness::cases;
-use harness::fast::{self, Search};
+use harness::fast::{self, descend::Descent, Search};
+use harness::panels;
 use harness::random::Random;
-use harness::reference::{
-    advance, ceiling, clique_branch, entries_from_bytes, Checkpoint, Problem, Sought,
-};
+use harness::reference::{advance, ceiling, clique_branch, descend, descent_ceiling};
+use harness::reference::{entries_from_bytes, start_minimum, Checkpoint, Problem, Sought};
 
 const SEARCHES: [Sought; 2] = [Sought::Any, Sought::Connected];
 
@@ -87,5 +87,30 @@ fn fast_walks_large_graphs_as_the_reference() {
         let mut random = Random::new(seed);
         let problem = cases::problem(&mut random, 40..65);
         walk_alike(seed, &mut random, &problem, 3, 400);
+    }
+}
+
+#[test]
+fn fast_descends_as_the_reference() {
+    for seed in 0..1_000 {
+        let mut random = Random::new(seed);
+        let problem = match random.percent(50) {
+            true => cases::problem(&mut random, 0..16),
+            false => panels::edited(&mut random, 12, 4, 3),
+        };
+        let floor = random.pick(&[0, 0, 1, 3, 6]);
+        let sought = random.pick(&SEARCHES);
+        let mut fast = Descent::start(&problem, sought, floor);
+        let mut plain = Checkpoint::fresh(start_minimum(&problem, floor));
+        for _ in 0..8 {
+            let budget = random.within(0..100) as u64;
+            let visits = fast.advance(budget);
+            let (after, made) = descend(&problem, sought, floor, plain, budget);
+            plain = after;
+            assert_eq!(visits, made, "seed {seed}");
+            assert_eq!(fast.checkpoint(), plain, "seed {seed}");
+            let ceiling = descent_ceiling(&problem, &plain);
+            assert_eq!(fast.ceiling(), ceiling, "seed {seed}");
+        }
     }
 }

@@ -1,5 +1,6 @@
 pub mod AllBelow
 pub mod Below
+pub mod Endings
 pub mod SomeBelow
 pub mod First
 pub mod Tells

@@ -16,7 +16,7 @@ use Rattle.step_limit.proofs.Foretold.{below-cap}
 use Rattle.checkpoint.specs.declared.Checkpoint.{Checkpoint}
 use Rattle.checkpoint.specs.Checkpoints.{freshCheckpoint, InShape}
 use Rattle.search.specs.Call.{Called}
-use Rattle.search.specs.Calls.{called, results, leaves, reached, spent}
+use Rattle.search.specs.Calls.{Call, called, results, leaves, reached, spent}
 use Rattle.checkpoint.proofs.CheckpointPasses.{passes-shape}
 use Rattle.search.proofs.ThirdProperty.{third-property-total, limit-spent}
 use Rattle.checkpoint_loader.specs.Between.{Sized}
@@ -25,13 +25,15 @@ use Rattle.checkpoint_loader.specs.Loading.{Loading, loading}
 use Rattle.checkpoint_loader.proofs.CalledSized.{fresh-sized, called-sized}
 use Rattle.checkpoint_loader.proofs.LoadAccepts.{load-in-shape}
 use Rattle.checkpoint_loader.proofs.SaveLoad.{saved-passed, save-load-buffer}
-use Rattle.replies.specs.declared.Reply.{Reply}
 use Rattle.replies.specs.Resumed.{Resumed, searchFrom, loadOn, resumeFrom}
 use Rattle.replies.proofs.CallKept.{Ways, Positive, save-kept}
 use Rattle.c_api.specs.Calls.{startOn, starting, resumeOn, resuming}
 use Rattle.c_api.specs.ResumedCall.{loadsTo}
-use Rattle.c_api.specs.ByteCalls.{ByteCall, resume, bytesAfter, bytesLeft, searchCallOf, searchCalls, ceilingOf, seenOf, seenBy, returned, startBytes, ThroughBytes}
-use Rattle.c_api.proofs.SearchWays.{SearchWays, kept, short, saved, search-ways}
+use Rattle.c_api.specs.ByteRuns.{ByteCall, callOf, bytesLeft, returned}
+use Rattle.c_api.specs.ByteCalls.{resume, writes, writtenBy, searchCalls, Seen, ceilingOf, seenOf, seenBy, startBytes, ThroughBytes}
+use Rattle.c_api.proofs.ByteRuns.{shown, left, Step, dropped, made, follows}
+use Rattle.c_api.proofs.SavedWays.{kept, short, saved}
+use Rattle.c_api.proofs.SearchWays.{SearchWays, search-same, search-ways}
 
 module _ (old new substitutes : List ℕ) (connected : Bool) (G : Problem) (graphs-read : readProblem old new ≡ read G) where
   -- the problem that is searched: the graphs that were read, with the list
@@ -46,57 +48,73 @@ module _ (old new substitutes : List ℕ) (connected : Bool) (G : Problem) (grap
         ap (λ (o : ReadOutcome). resumeOn o substitutes connected bytes (x .budget) (x .workspace) (x .next)) graphs-read
         ∙ ap (λ (l : Loading). loadOn connected P l (x .budget) (x .workspace) (x .next)) loads
 
-    -- one call: it is refused with 13, or it is a search call on c, and the next call's bytes load the checkpoint that this one leaves
-    data Step (q : Called) (r : Resumed) : Type 0 where
-      dropped : eqb (r .reply .number) 13 ≡ true → bytesAfter bytes r ≡ bytes → Step q r
-      made : eqb (r .reply .number) 13 ≡ false → seenBy r ≡ seenOf q → loading connected P (bytesAfter bytes r) ≡ loadsTo (q .checkpoint) → Step q r
+  -- bytes that load c, a checkpoint as the code's types say
+  abbrev Loads : List ℕ → Checkpoint → Type 0
+  Loads bytes c = (loading connected P bytes ≡ loadsTo c) × Sized c
 
-    step : SoundProblem P → Sized c → InShape connected P c → (x : ByteCall) → Step (called connected P c (searchCallOf x)) (resume old new substitutes connected bytes x)
-    step sound sized shape x = rw (resume-loaded x) (go _ (search-ways connected P c (searchCallOf x) (x .next) sound sized shape))
-      where
-        q : Called
-        q = called connected P c (searchCallOf x)
+  -- a search call on c: what a caller sees of it, and the checkpoint that it leaves
+  abbrev shows : Checkpoint → Call → Seen
+  shows c call = seenOf (called connected P c call)
 
-        go : (r : Resumed) → SearchWays connected P c (searchCallOf x) (x .next) r → Step q r
-        go r (kept h z w k e) =
-            let on : eqb (refusalNumber (q .answer)) 0 ≡ false = ne-eqb (refusalNumber (q .answer)) 0 (λ n. omega (arith, n, h .0)) in
-            let off : eqb (refusalNumber (q .answer)) 13 ≡ false = ne-eqb (refusalNumber (q .answer)) 13 (λ n. omega (arith, n, h .2)) in
-            rw e
-            (made off
-            (λ i. record { number = refusalNumber (q .answer); ceiling = sym z i; workspace = sym w i })
-            (rw (on, k) loads))
-        go r (short n a few e) = rw e (dropped refl refl)
-        go r (saved n count a told top words back) =
-            let number = ap (λ (t : Reply). t .number) told ∙ sym (ap refusalNumber a) in
-            let ceiling = top ∙ sym (ap ceilingOf a) in
-            made (rw told) (λ i. record { number = number i; ceiling = ceiling i; workspace = words i }) (rw told back)
+  abbrev leavesOne : Checkpoint → Call → Checkpoint
+  leavesOne c call = called connected P c call .checkpoint
 
-  -- from bytes that load c: the calls return what the search calls made give, and the bytes left load the checkpoint that these leave
-  abbrev Follows : List ℕ → Checkpoint → List ByteCall → Type 0
-  Follows bytes c calls =
-      (returned old new substitutes connected bytes calls ≡ map seenOf (results connected P c (searchCalls old new substitutes connected bytes calls)))
-      × (loading connected P (bytesLeft old new substitutes connected bytes calls) ≡ loadsTo (leaves connected P c (searchCalls old new substitutes connected bytes calls)))
+  abbrev seen : List ℕ → ByteCall → Seen
+  seen bytes x = seenBy (resume old new substitutes connected bytes x)
 
-  follows : SoundProblem P → (bytes : List ℕ) (c : Checkpoint) → loading connected P bytes ≡ loadsTo c → Sized c → (calls : List ByteCall)
-      → Follows bytes c calls
-  unfolding returned searchCalls bytesLeft results leaves
-  follows sound bytes c loads sized [] = (refl, loads)
-  follows sound bytes c loads sized (x ∷ later) =
-      go (λ b d l s. follows sound b d l s later) (step bytes c loads sound sized shape x)
+  -- one call by its reply
+  abbrev OneCall : List ℕ → Checkpoint → ByteCall → Resumed → Type 0
+  OneCall bytes c x r = Step shows leavesOne (writes old new substitutes connected) seen Loads bytes c x (writtenBy r) (seenBy r)
+
+  -- it is refused with 13, or it is a search call on c
+  step : SoundProblem P → (bytes : List ℕ) (c : Checkpoint) → Loads bytes c → (x : ByteCall) → OneCall bytes c x (resume old new substitutes connected bytes x)
+  step sound bytes c loads x = rw (resume-loaded bytes c (loads .0) x) (go _ (search-ways connected P c (callOf x) (x .next) sound (loads .1) shape))
     where
       shape : InShape connected P c
-      shape = rw loads at (load-in-shape connected P bytes (ap (λ (l : Loading). l .answer) loads) .1)
+      shape = rw (loads .0) at (load-in-shape connected P bytes (ap (λ (l : Loading). l .answer) (loads .0)) .1)
 
-      r : Resumed
-      r = resume old new substitutes connected bytes x
+      q : Called
+      q = called connected P c (callOf x)
 
-      go : ((b : List ℕ) (d : Checkpoint) → loading connected P b ≡ loadsTo d → Sized d → Follows b d later)
-          → Step bytes c loads (called connected P c (searchCallOf x)) r → Follows bytes c (x ∷ later)
-      go rest (dropped t same) = rw (t, same) (rest bytes c loads sized)
-      go rest (made f seen back) =
-          let q = called connected P c (searchCallOf x) in
-          let more = rest (bytesAfter bytes r) (q .checkpoint) back (called-sized connected P c sized (searchCallOf x)) in
-          rw f (rw (seen, more .0), more .1)
+      sized : Sized (q .checkpoint)
+      sized = called-sized connected P c (loads .1) (callOf x)
+
+      go : (r : Resumed) → SearchWays connected P c (callOf x) (x .next) r → OneCall bytes c x r
+      go r (kept h z e) =
+          let same = search-same connected P c (callOf x) (x .next) (h .0) in
+          let on : eqb (refusalNumber (q .answer)) 0 ≡ false = ne-eqb (refusalNumber (q .answer)) 0 (λ n. omega (arith, n, h .0)) in
+          let off : eqb (refusalNumber (q .answer)) 13 ≡ false = ne-eqb (refusalNumber (q .answer)) 13 (λ n. omega (arith, n, h .2)) in
+          rw e
+          (made off
+          (λ i. record { number = refusalNumber (q .answer); ceiling = sym z i; workspace = sym (same .0) i })
+          (rw (on, same .1) (loads .0), sized))
+      go r (short n a few e) = rw e (dropped refl refl)
+      go r (saved n count buffer a e back) =
+          rw e
+          (made refl
+          (λ i. record { number = sym (ap refusalNumber a) i; ceiling = sym (ap ceilingOf a) i; workspace = q .workspace })
+          (back, sized))
+
+  -- what calls show and leave, one after the other, are a list of search calls
+  shown-results : (c : Checkpoint) (calls : List Call) → shown shows leavesOne c calls ≡ map seenOf (results connected P c calls)
+  unfolding shown results
+  shown-results c [] = refl
+  shown-results c (call ∷ later) = ap (_∷_ (seenOf (called connected P c call))) (shown-results (leavesOne c call) later)
+
+  left-leaves : (c : Checkpoint) (calls : List Call) → left shows leavesOne c calls ≡ leaves connected P c calls
+  unfolding left leaves
+  left-leaves c [] = refl
+  left-leaves c (call ∷ later) = left-leaves (leavesOne c call) later
+
+  -- So the calls return what the search calls made give, and the bytes left load the checkpoint that these leave.
+  through : SoundProblem P → (bytes : List ℕ) (c : Checkpoint) → Loads bytes c → (calls : List ByteCall)
+      → let made = searchCalls old new substitutes connected bytes calls in
+      (returned (writes old new substitutes connected) seen bytes calls ≡ map seenOf (results connected P c made))
+      × (loading connected P (bytesLeft (writes old new substitutes connected) bytes calls) ≡ loadsTo (leaves connected P c made))
+  through sound bytes c loads calls =
+      let made = searchCalls old new substitutes connected bytes calls in
+      let both = follows shows leavesOne (writes old new substitutes connected) seen Loads (step sound) bytes c loads calls in
+      (both .0 ∙ shown-results c made, both .1 .0 ∙ ap loadsTo (left-leaves c made))
 
 module _ (old new substitutes : List ℕ) (connected : Bool) (minimum : ℕ) (buffer : List ℕ) where
   -- Once a search is started, whatever calls follow obey the third property.
@@ -127,8 +145,8 @@ module _ (old new substitutes : List ℕ) (connected : Bool) (minimum : ℕ) (bu
             total = end .0;
             is-total = end .1;
             property = λ calls. end .3 (searchCalls old new substitutes connected (take k (saving connected P fresh buffer .buffer)) calls);
-            returns = λ calls. follows old new substitutes connected G e sound _ fresh back (fresh-sized minimum) calls .0;
-            loads = λ calls. follows old new substitutes connected G e sound _ fresh back (fresh-sized minimum) calls .1;
+            returns = λ calls. through old new substitutes connected G e sound _ fresh (back, fresh-sized minimum) calls .0;
+            loads = λ calls. through old new substitutes connected G e sound _ fresh (back, fresh-sized minimum) calls .1;
           }
       on-save G e (refused n) s h z = absurd (omega (arith, h .0))
       on-save G e (refusedAt n at) s h z = absurd (omega (arith, h .0))

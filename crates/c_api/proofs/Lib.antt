@@ -1,7 +1,12 @@
 pub mod ReadArms
 pub mod RefusalNumbers
+pub mod AnswerCases
 pub mod Unmoved
+pub mod SavedWays
 pub mod SearchWays
 pub mod ResumedCall
 pub mod OutputRoom
+pub mod ByteRuns
 pub mod ByteCalls
+pub mod BroughtDescent
+pub mod DescentBytes

@@ -12,7 +12,7 @@ use borrow.Author.Tests.{le-leb, leb-false}
 use Rattle.answers.specs.Answer.{Answer, passed, accepted, refused, refusedAt, refusalNumber, whenPassed}
 use Rattle.answers.specs.Output.{writeIf}
 use Rattle.answers.proofs.Choice.{cond-cases}
-use Rattle.answers.proofs.RefusalNumbers.{Plain}
+use Rattle.answers.proofs.RefusalNumbers.{RefusalNumber, Plain}
 use Rattle.problem.specs.Problem.{Problem, substituting}
 use Rattle.problem_reader.specs.ProblemReading.{ReadOutcome, read, refusal, readProblem}
 use Rattle.problem_reader.proofs.ReadProblem.{Refusing, outcome-refusing}
@@ -22,25 +22,27 @@ use Rattle.clique.proofs.BranchBest.{branch-length}
 use Rattle.checkpoint.specs.declared.Checkpoint.{Checkpoint}
 use Rattle.checkpoint.specs.Checkpoints.{freshCheckpoint}
 use Rattle.checkpoint.specs.Checking.{checkpointAnswer}
+use Rattle.search.specs.Call.{searchCall}
 use Rattle.checkpoint.proofs.CheckpointPasses.{passes-shape, checkpoint-plain}
 use Rattle.checkpoint_saver.specs.Saving.{checkpointBytes, maxBytes, saving}
 use Rattle.checkpoint_loader.specs.Loading.{loading}
-use Rattle.checkpoint_loader.specs.FaultPlace.{Bytes}
-use Rattle.checkpoint_loader.proofs.CalledSized.{called-in-shape}
 use Rattle.checkpoint_loader.proofs.LoadAccepts.{load-in-shape}
-use Rattle.checkpoint_loader.proofs.LoadedSized.{load-sized}
 use Rattle.checkpoint_saver.proofs.SavedLength.{incumbent-few, saved-max}
+use Rattle.descend.specs.Call.{startCall, descendCall}
 use Rattle.replies.specs.Reply.{replyOf}
-use Rattle.replies.specs.Resumed.{Resumed}
+use Rattle.replies.specs.Resumed.{Resumed, notResumed, searchFrom, resumeFrom}
 use Rattle.replies.specs.ReadOut.{heldIn, readCheckpoint, readLoaded, readBytes}
 use Rattle.replies.specs.CliqueReply.{CliqueReply, noMapping, heldReply, branchReply}
+use Rattle.replies.proofs.CallKept.{Ways, search-kept}
+use Rattle.descent_replies.specs.DescentReply.{DescentReply, notDescended, descendAndSave, descendBytes}
+use Rattle.descent_replies.proofs.DescentKept.{descend-kept}
 use Rattle.clique.proofs.CliquePasses.{clique-plain, passes-clique}
-use Rattle.c_api.specs.Calls.{startOn, starting, resuming}
+use Rattle.c_api.specs.Calls.{beginOn, starting, resumeOn, resuming}
+use Rattle.c_api.specs.Descents.{descendStarting, descendOn, descendResuming}
 use Rattle.c_api.specs.ReadOut.{readOutOn, readingOut}
 use Rattle.c_api.specs.Branching.{branchOn, branching, HeldShort}
-use Rattle.c_api.specs.ResumedCall.{ResumedCall, refused as turned, short, advanced}
 use Rattle.c_api.proofs.RefusalNumbers.{loading-plain}
-use Rattle.c_api.proofs.ResumedCall.{resume-goes}
+use Rattle.c_api.proofs.AnswerCases.{saved-cases}
 
 -- a save is not refused with 13 where there is room for 270 bytes
 save-fits : (connected : Bool) (P : Problem) (c : Checkpoint) (buffer : List ℕ) → maxBytes ≤ length buffer → refusalNumber (saving connected P c buffer .answer) ≡ 13 → ⊥
@@ -58,32 +60,82 @@ save-fits connected P c buffer room = go (checkpointAnswer connected P c) refl (
     go (refused n) e h z = omega (arith, h .2)
     go (refusedAt n at) e h z = omega (arith, h .2)
 
+-- the answer is no refusal with 13
+abbrev Fits : Answer → Type 0
+Fits a = refusalNumber a ≡ 13 → ⊥
+
+-- the refusals that come before the output's are not
+plain-fits : (a : Answer) → Plain a → Fits a
+plain-fits passed h z = omega arith
+plain-fits (accepted n) h z = h
+plain-fits (refused n) h z = omega (arith, h .2)
+plain-fits (refusedAt n at) h z = omega (arith, h .2)
+
+ways-fit : (A B : Type 0) (a : Answer) → Ways RefusalNumber A B a → Fits a
+ways-fit A B passed h z = h
+ways-fit A B (accepted n) h z = omega arith
+ways-fit A B (refused n) h z = omega (arith, h .0 .2)
+ways-fit A B (refusedAt n at) h z = omega (arith, h .0 .2)
+
 module _ (old new substitutes : List ℕ) where
-  module _ (connected : Bool) (minimum : ℕ) (buffer : List ℕ) where
-    -- A search is started in any buffer of 270 bytes.
-    pub start-fits : maxBytes ≤ length buffer → starting old new substitutes connected minimum buffer .reply .number ≡ 13 → ⊥
-    unfolding starting
-    start-fits room = go (readProblem old new) (outcome-refusing old new)
-      where
-        go : (g : ReadOutcome) → Refusing g → startOn g substitutes connected minimum buffer .reply .number ≡ 13 → ⊥
-        go (read G) h z = save-fits connected (substituting substitutes G) (freshCheckpoint minimum) buffer room z
-        go (refusal a) h z = omega (arith, h .2)
+  -- whatever checkpoint is saved to begin with
+  begin-fits : (first : Problem → Checkpoint) (connected : Bool) (buffer : List ℕ) → maxBytes ≤ length buffer
+      → beginOn first (readProblem old new) substitutes connected buffer .reply .number ≡ 13 → ⊥
+  begin-fits first connected buffer room = go (readProblem old new) (outcome-refusing old new)
+    where
+      go : (g : ReadOutcome) → Refusing g → beginOn first g substitutes connected buffer .reply .number ≡ 13 → ⊥
+      go (read G) h z = let P = substituting substitutes G in save-fits connected P (first P) buffer room z
+      go (refusal a) h z = omega (arith, h .2)
+
+  -- A search is started in any buffer of 270 bytes.
+  pub start-fits : (connected : Bool) (minimum : ℕ) (buffer : List ℕ) → maxBytes ≤ length buffer
+      → starting old new substitutes connected minimum buffer .reply .number ≡ 13 → ⊥
+  unfolding starting
+  start-fits connected minimum = begin-fits (λ (P : Problem). freshCheckpoint minimum) connected
+
+  -- So is a descent.
+  pub descend-start-fits : (connected : Bool) (floor : ℕ) (buffer : List ℕ) → maxBytes ≤ length buffer
+      → descendStarting old new substitutes connected floor buffer .reply .number ≡ 13 → ⊥
+  unfolding descendStarting
+  descend-start-fits connected floor = begin-fits (λ (P : Problem). startCall P floor .checkpoint) connected
 
   -- The visits of a resumed search are always saved into a buffer of 270 bytes.
-  pub no-visit-lost : (connected : Bool) (bytes : List ℕ) → Bytes bytes → (budget : ℕ) (workspace next : List ℕ) → maxBytes ≤ length next
+  pub no-visit-lost : (connected : Bool) (bytes : List ℕ) (budget : ℕ) (workspace next : List ℕ) → maxBytes ≤ length next
       → resuming old new substitutes connected bytes budget workspace next .reply .number ≡ 13 → ⊥
-  no-visit-lost connected bytes small budget workspace next room =
-      go (resuming old new substitutes connected bytes budget workspace next) (resume-goes old new substitutes connected bytes budget workspace next small)
+  unfolding resuming resumeFrom searchFrom
+  no-visit-lost connected bytes budget workspace next room = on-graphs (readProblem old new) (outcome-refusing old new)
     where
-      go : (r : Resumed) → ResumedCall old new substitutes connected bytes budget workspace next r → r .reply .number ≡ 13 → ⊥
-      go r (turned refuses never) z = never z
-      go r (short s) z =
-          let P = substituting substitutes (s .searched .graphs) in
-          let found = load-in-shape connected P bytes (s .searched .loaded) in
-          let sized = load-sized connected P bytes small (s .searched .loaded) in
-          let left = called-in-shape connected P _ sized (record { budget = budget; workspace = workspace }) (found .1) in
-          omega (arith, s .too-short, room, saved-max connected P (found .0) _ left)
-      go r (advanced a) z = omega (arith, a .number)
+      Saves : Resumed → Type 0
+      Saves r = r .reply .number ≡ 13 → ⊥
+
+      on-graphs : (g : ReadOutcome) → Refusing g → Saves (resumeOn g substitutes connected bytes budget workspace next)
+      on-graphs (read G) h =
+          let P = substituting substitutes G in
+          let l = loading connected P bytes in
+          let q = searchCall connected P (l .checkpoint) budget workspace in
+          saved-cases Saves Fits (notResumed workspace next) (λ a fits. fits) (l .answer) (q .answer) (saving connected P (q .checkpoint) next .answer)
+          (plain-fits (l .answer) (loading-plain connected P bytes)) (ways-fit _ _ (q .answer) (search-kept connected P (l .checkpoint) budget workspace))
+          (save-fits connected P (q .checkpoint) next room) (λ ceiling count (z : 0 ≡ 13). omega arith)
+      on-graphs (refusal a) h = λ z. omega (arith, h .2)
+
+  -- So are those of a resumed descent.
+  pub no-descent-visit-lost : (connected : Bool) (floor : ℕ) (bytes : List ℕ) (budget : ℕ) (workspace next : List ℕ) → maxBytes ≤ length next
+      → descendResuming old new substitutes connected floor bytes budget workspace next .reply .number ≡ 13 → ⊥
+  unfolding descendResuming descendBytes descendAndSave
+  no-descent-visit-lost connected floor bytes budget workspace next room = on-graphs (readProblem old new) (outcome-refusing old new)
+    where
+      Saves : DescentReply → Type 0
+      Saves r = r .reply .number ≡ 13 → ⊥
+
+      on-graphs : (g : ReadOutcome) → Refusing g → Saves (descendOn g substitutes connected floor bytes budget workspace next)
+      on-graphs (read G) h =
+          let P = substituting substitutes G in
+          let l = loading connected P bytes in
+          let q = descendCall connected P floor (l .checkpoint) budget workspace in
+          saved-cases Saves Fits (notDescended workspace next) (λ a fits. fits) (l .answer) (q .answer) (saving connected P (q .checkpoint) next .answer)
+          (plain-fits (l .answer) (loading-plain connected P bytes)) (ways-fit _ _ (q .answer) (descend-kept connected P floor (l .checkpoint) budget workspace))
+          (save-fits connected P (q .checkpoint) next room) (λ ceiling count (z : 0 ≡ 13). omega arith)
+      on-graphs (refusal a) h = λ z. omega (arith, h .2)
 
   -- A held mapping always fits into 64 bytes.
   pub read-out-fits : (connected : Bool) (bytes mapping : List ℕ) → 64 ≤ length mapping → readingOut old new substitutes connected bytes mapping .reply .number ≡ 13 → ⊥

@@ -1,5 +1,5 @@
 -- How a resumed search goes: refused, 13 last and only where the bytes do not fit, or saved.
-use mathlib.Core.Path.{_≡_, refl, ap}
+use mathlib.Core.Path.{_≡_, refl}
 use mathlib.Core.Bool.{Bool}
 use mathlib.Core.List.{List}
 use Prim.Native.Nat.{ℕ}
@@ -15,11 +15,11 @@ use Rattle.checkpoint_loader.specs.Loading.{loading}
 use Rattle.checkpoint_loader.specs.FaultPlace.{Bytes}
 use Rattle.checkpoint_loader.proofs.LoadAccepts.{load-in-shape}
 use Rattle.checkpoint_loader.proofs.LoadedSized.{load-sized}
-use Rattle.replies.specs.declared.Reply.{Reply}
 use Rattle.replies.specs.Resumed.{Resumed, notResumed, searchFrom, loadOn, resumeFrom}
 use Rattle.c_api.specs.Calls.{resumeOn, resuming}
 use Rattle.c_api.specs.ResumedCall.{ResumedCall, refused as turned, short, advanced}
-use Rattle.c_api.proofs.SearchWays.{SearchWays, kept, short as unsaved, saved, search-ways}
+use Rattle.c_api.proofs.SavedWays.{kept, short as unsaved, saved}
+use Rattle.c_api.proofs.SearchWays.{SearchWays, search-ways}
 use Rattle.c_api.proofs.RefusalNumbers.{loading-plain}
 
 module _ (old new substitutes : List ℕ) (connected : Bool) (bytes : List ℕ) (budget : ℕ) (workspace next : List ℕ) where
@@ -48,7 +48,7 @@ module _ (old new substitutes : List ℕ) (connected : Bool) (bytes : List ℕ) 
         call = record { budget = budget; workspace = workspace }
 
         go : (r : Resumed) → SearchWays connected P c call next r → Goes r
-        go r (kept h z w k e) = rw e (turned-away (called connected P c call .answer) h)
+        go r (kept h z e) = rw e (turned-away (called connected P c call .answer) h)
         go r (unsaved n a few e) =
             rw e
             (short (record {
@@ -56,14 +56,15 @@ module _ (old new substitutes : List ℕ) (connected : Bool) (bytes : List ℕ) 
               number = refl;
               too-short = few;
             }))
-        go r (saved n count a told top words back) =
-            advanced (record {
+        go r (saved n count buffer a e back) =
+            rw e
+            (advanced (record {
               searched = record { graphs = G; graphs-read = graphs-read; loaded = loaded; ceiling = n; ceiling-is = a };
-              number = ap (λ (t : Reply). t .number) told;
-              ceiling-is = top;
-              workspace-is = words;
-              saved = rw told back;
-            })
+              number = refl;
+              ceiling-is = refl;
+              workspace-is = refl;
+              saved = back;
+            }))
 
     load-goes : Goes (resumeFrom connected P bytes budget workspace next)
     unfolding resumeFrom

@@ -1,10 +1,9 @@
 -- A search started and then resumed any number of times through checkpoint bytes, and the mission's third property of it: 01, "Bookmark and calls", third
 -- paragraph, "one claim about the whole list of search calls".
 use mathlib.Core.Path.{_≡_}
-use mathlib.Core.Bool.{Bool, cond}
-use mathlib.Core.List.{List, [], _∷_, map}
+use mathlib.Core.Bool.{Bool}
+use mathlib.Core.List.{List, map}
 use Prim.Native.Nat.{ℕ}
-use lib.Dec.{eqb}
 use lib.ListN.{take}
 use Rattle.answers.specs.Answer.{Answer, refusalNumber, onAnswer}
 use Rattle.problem.specs.Problem.{Problem, SoundProblem, substituting}
@@ -20,24 +19,7 @@ use Rattle.replies.specs.Resumed.{Resumed}
 use Rattle.c_api.specs.Calls.{resuming}
 use Rattle.c_api.specs.Wrote.{Wrote}
 use Rattle.c_api.specs.ResumedCall.{loadsTo}
-
--- what a caller chooses for each call of `golfcedar_resume`, anything it likes: a `next` of any length too
-pub record ByteCall : Type 0 where
-  pub budget : ℕ
-  pub workspace : List ℕ
-  pub next : List ℕ
-
--- the search call in it
-abbrev pub searchCallOf : ByteCall → Call
-searchCallOf x = record { budget = x .budget; workspace = x .workspace }
-
--- the bytes that the next call is given: those that this one wrote, or the same again where it is refused
-abbrev pub bytesAfter : List ℕ → Resumed → List ℕ
-bytesAfter bytes r = cond (eqb (r .reply .number) 0) (take (r .reply .value) (r .next)) bytes
-
--- with this call's item at the front, unless the call is refused with 13: such a call counts as if it had not been made
-abbrev pub unless13 : {A : Type 0} → Resumed → A → List A → List A
-unless13 r item rest = cond (eqb (r .reply .number) 13) rest (item ∷ rest)
+use Rattle.c_api.specs.ByteRuns.{ByteCall, Written, bytesLeft, callsMade, returned}
 
 -- what a caller sees of a search call: the refusal's number or 0, the ceiling or 0, and the workspace afterwards
 pub record Seen : Type 0 where
@@ -54,6 +36,9 @@ seenOf q = record { number = refusalNumber (q .answer); ceiling = ceilingOf (q .
 abbrev pub seenBy : Resumed → Seen
 seenBy r = record { number = r .reply .number; ceiling = r .ceiling; workspace = r .workspace }
 
+abbrev pub writtenBy : Resumed → Written
+writtenBy r = record { number = r .reply .number; bytes = take (r .reply .value) (r .next) }
+
 -- the bytes that an accepted start wrote
 abbrev pub startBytes : Wrote → List ℕ
 startBytes s = take (s .reply .value) (s .buffer)
@@ -63,20 +48,13 @@ module _ (old new substitutes : List ℕ) (connected : Bool) where
   abbrev pub resume : List ℕ → ByteCall → Resumed
   resume bytes x = resuming old new substitutes connected bytes (x .budget) (x .workspace) (x .next)
 
-  -- the bytes after the last call
-  unfoldable pub bytesLeft : List ℕ → List ByteCall → List ℕ
-  bytesLeft bytes [] = bytes
-  bytesLeft bytes (x ∷ later) = bytesLeft (bytesAfter bytes (resume bytes x)) later
+  -- what it writes
+  abbrev pub writes : List ℕ → ByteCall → Written
+  writes bytes x = writtenBy (resume bytes x)
 
   -- the search calls that are made
-  unfoldable pub searchCalls : List ℕ → List ByteCall → List Call
-  searchCalls bytes [] = []
-  searchCalls bytes (x ∷ later) = let r = resume bytes x in unless13 r (searchCallOf x) (searchCalls (bytesAfter bytes r) later)
-
-  -- what these calls return
-  unfoldable pub returned : List ℕ → List ByteCall → List Seen
-  returned bytes [] = []
-  returned bytes (x ∷ later) = let r = resume bytes x in unless13 r (seenBy r) (returned (bytesAfter bytes r) later)
+  abbrev pub searchCalls : List ℕ → List ByteCall → List Call
+  searchCalls bytes calls = callsMade writes bytes calls
 
   -- Whatever calls follow on these bytes, the third property holds of the search calls that are made, they return what those calls give, and the
   -- bytes left load the checkpoint that those calls reach.
@@ -88,7 +66,7 @@ module _ (old new substitutes : List ℕ) (connected : Bool) where
     pub is-total : IsTotal (searchOf connected (substituting substitutes graphs)) minimum total
     pub property : (calls : List ByteCall) → ThirdProperty connected (substituting substitutes graphs) minimum total (searchCalls bytes calls)
     pub returns : (calls : List ByteCall)
-        → returned bytes calls ≡ map seenOf (results connected (substituting substitutes graphs) (freshCheckpoint minimum) (searchCalls bytes calls))
+        → returned writes (λ b x. seenBy (resume b x)) bytes calls ≡ map seenOf (results connected (substituting substitutes graphs) (freshCheckpoint minimum) (searchCalls bytes calls))
     pub loads : (calls : List ByteCall)
-        → loading connected (substituting substitutes graphs) (bytesLeft bytes calls)
+        → loading connected (substituting substitutes graphs) (bytesLeft writes bytes calls)
         ≡ loadsTo (reached connected (substituting substitutes graphs) minimum (searchCalls bytes calls))

@@ -7,6 +7,7 @@ use lib.Dec.{eqb}
 use Rattle.answers.specs.Answer.{Answer}
 use Rattle.problem.specs.Problem.{Problem, substituting}
 use Rattle.problem_reader.specs.ProblemReading.{ReadOutcome, onOutcome, readProblem}
+use Rattle.checkpoint.specs.declared.Checkpoint.{Checkpoint}
 use Rattle.checkpoint.specs.Checkpoints.{freshCheckpoint}
 use Rattle.checkpoint_saver.specs.Saving.{saving}
 use Rattle.replies.specs.Reply.{replyOf}
@@ -17,13 +18,17 @@ use Rattle.replies.specs.Resumed.{Resumed, notResumed, resumeFrom}
 abbrev pub asked : ℕ → Bool
 asked connected = not (eqb connected 0)
 
--- "A fresh one needs a floor only"
-abbrev pub startOn : ReadOutcome → List ℕ → Bool → ℕ → List ℕ → Wrote
-startOn outcome substitutes connected minimum buffer =
+-- the checkpoint to begin with, by the problem that is searched, saved
+abbrev pub beginOn : (Problem → Checkpoint) → ReadOutcome → List ℕ → Bool → List ℕ → Wrote
+beginOn first outcome substitutes connected buffer =
     onOutcome
-    (λ (P : Problem). wroteBy (saving connected (substituting substitutes P) (freshCheckpoint minimum) buffer))
+    (λ (P : Problem). let Q = substituting substitutes P in wroteBy (saving connected Q (first Q) buffer))
     (λ (refusal : Answer). wrote (replyOf refusal) buffer)
     outcome
+
+-- "A fresh one needs a floor only"
+abbrev pub startOn : ReadOutcome → List ℕ → Bool → ℕ → List ℕ → Wrote
+startOn outcome substitutes connected minimum buffer = beginOn (λ (P : Problem). freshCheckpoint minimum) outcome substitutes connected buffer
 
 -- the graphs' refusals, the list's, then 13 where the bytes do not fit
 unfoldable pub starting : List ℕ → List ℕ → List ℕ → Bool → ℕ → List ℕ → Wrote

@@ -1,8 +1,11 @@
 pub mod Checks
 pub mod Calls
+pub mod Descents
 pub mod ReadOut
 pub mod ResumedCall
+pub mod ByteRuns
 pub mod ByteCalls
+pub mod DescentBytes
 pub mod Branching
 pub mod Moves
 pub mod Wrote

@@ -13,8 +13,10 @@ ghost use Rattle.replies.specs.Checked.{checked};
 ghost use Rattle.replies.specs.Resumed.{resumed};
 ghost use Rattle.replies.specs.ReadOut.{readOut};
 ghost use Rattle.replies.specs.CliqueReply.{cliqueReply};
+ghost use Rattle.descent_replies.specs.DescentReply.{descentReply};
 ghost use Rattle.c_api.specs.Checks.{checkingGraph, checkingMapping};
 ghost use Rattle.c_api.specs.Calls.{asked, starting, resuming};
+ghost use Rattle.c_api.specs.Descents.{descendStarting, descendResuming};
 ghost use Rattle.c_api.specs.ReadOut.{readingOut};
 ghost use Rattle.c_api.specs.Branching.{branching};
 ghost use Rattle.c_api.specs.Moves.{movingTo};
@@ -197,6 +199,113 @@ pub extern "C" fn golfcedar_resume(
             *value = resumed.reply.value;
             *ceiling = resumed.ceiling;
             resumed.reply.number
+        }
+    }
+}
+
+// A descent that has not begun, as the checkpoint bytes of its first search.
+#[no_mangle]
+pub extern "C" fn golfcedar_descend_start(
+    old_graph: &[u8],
+    new_graph: &[u8],
+    substitutes: &[u8],
+    connected: u32,
+    floor: u8,
+    checkpoint: &mut [u8],
+    value: &mut u64,
+) -> u32
+    ensures { λ r. ⌜ wrote (reply r (now (value .exit))) (now (checkpoint .exit))
+        ≡ descendStarting (now («old_graph» .entry)) (now («new_graph» .entry)) (now (substitutes .entry)) (asked connected) floor (now (checkpoint .entry)) ⌝ }
+{
+    let mut old_labels = [0 as Label; MAX_ORDER];
+    let mut old_edges = [0u8; EDGE_BYTES];
+    let mut new_labels = [0 as Label; MAX_ORDER];
+    let mut new_edges = [0u8; EDGE_BYTES];
+    match problem_reader::read_problem(
+        old_graph,
+        new_graph,
+        &mut old_labels,
+        &mut old_edges,
+        &mut new_labels,
+        &mut new_edges,
+    ) {
+        ProblemRead::Refused(refusal) => {
+            let reply = replies::of_read(refusal);
+            *value = reply.value;
+            reply.number
+        }
+        ProblemRead::Orders(old_order, new_order) => {
+            let reply = replies::of_save(descent_replies::start(
+                [old_order, new_order],
+                [&old_labels, &new_labels],
+                [&old_edges, &new_edges],
+                substitutes,
+                connected != 0,
+                floor,
+                checkpoint,
+            ));
+            *value = reply.value;
+            reply.number
+        }
+    }
+}
+
+// A descent goes on for as many visits as the budget says, from checkpoint bytes to checkpoint bytes.
+#[no_mangle]
+pub extern "C" fn golfcedar_descend_resume(
+    old_graph: &[u8],
+    new_graph: &[u8],
+    substitutes: &[u8],
+    connected: u32,
+    floor: u8,
+    checkpoint: &[u8],
+    budget: u64,
+    workspace: &mut [u64],
+    next: &mut [u8],
+    value: &mut u64,
+    ceiling: &mut u64,
+    visits: &mut u64,
+) -> u32
+    ensures { λ r. ⌜ descentReply (reply r (now (value .exit))) (now (ceiling .exit)) (now (visits .exit)) (now (workspace .exit)) (now (next .exit))
+        ≡ descendResuming (now («old_graph» .entry)) (now («new_graph» .entry)) (now (substitutes .entry)) (asked connected) floor (now (checkpoint .entry)) budget
+        (now (workspace .entry)) (now (next .entry)) ⌝ }
+{
+    let mut old_labels = [0 as Label; MAX_ORDER];
+    let mut old_edges = [0u8; EDGE_BYTES];
+    let mut new_labels = [0 as Label; MAX_ORDER];
+    let mut new_edges = [0u8; EDGE_BYTES];
+    match problem_reader::read_problem(
+        old_graph,
+        new_graph,
+        &mut old_labels,
+        &mut old_edges,
+        &mut new_labels,
+        &mut new_edges,
+    ) {
+        ProblemRead::Refused(refusal) => {
+            let reply = replies::of_read(refusal);
+            *value = reply.value;
+            *ceiling = 0;
+            *visits = 0;
+            reply.number
+        }
+        ProblemRead::Orders(old_order, new_order) => {
+            let descended = descent_replies::descend(
+                [old_order, new_order],
+                [&old_labels, &new_labels],
+                [&old_edges, &new_edges],
+                substitutes,
+                connected != 0,
+                floor,
+                checkpoint,
+                budget,
+                workspace,
+                next,
+            );
+            *value = descended.reply.value;
+            *ceiling = descended.ceiling;
+            *visits = descended.visits;
+            descended.reply.number
         }
     }
 }

@@ -1,14 +1,14 @@
 -- A search call keeps the shape of a checkpoint, and what the code's types say of it: two arrays of 64 bytes, and steps of 64 bits.
 use mathlib.Core.Path.{_≡_, refl}
-use mathlib.Core.Bool.{Bool, true, false, cond, _||_}
+use mathlib.Core.Bool.{Bool, true, false, _||_}
 use mathlib.Core.List.{List, []}
 use mathlib.Core.Option.{Option, none, some, Option·none-ne-some}
 use Prim.Native.Nat.{ℕ, zero, suc, _+_, _^_, _≤_, _<_}
 use native.Mathlib.Omega.{arith}
-use lib.Dec.{leb, ltb}
+use lib.Dec.{ltb}
 use lib.ListN.{length}
 use borrow.Author.Tests.{ltb-true}
-use Rattle.answers.specs.Answer.{Answer, passed, accepted, refused, refusedAt}
+use Rattle.answers.specs.Answer.{accepted}
 use Rattle.problem.specs.Problem.{Problem, SoundProblem}
 use Rattle.search_tree.specs.Search.{Search, searchOf}
 use Rattle.search_tree.specs.Walk.{State, visit}
@@ -16,18 +16,17 @@ use Rattle.search_tree.specs.Shape.{Shape}
 use Rattle.search_tree.proofs.Steps.{visit-steps, visit-finished}
 use Rattle.checkpoint.specs.declared.Checkpoint.{Checkpoint}
 use Rattle.checkpoint.specs.Checkpoints.{incumbentBytes, checkpointOf, freshCheckpoint, stateOf, InShape}
-use Rattle.search.specs.Call.{Called, visits, wordsNeeded, refuse, advance, countFits, onPassed, searchCall}
-use Rattle.checkpoint.specs.Checking.{checkpointAnswer}
+use Rattle.search.specs.Call.{visits, advance, countFits}
 use Rattle.search.specs.Calls.{Call, called}
 use Rattle.checkpoint.proofs.Padding.{padded-length}
-use Rattle.checkpoint.proofs.CheckpointPasses.{passes-shape}
 use Rattle.checkpoint.proofs.StateShape.{state-in-shape}
+use Rattle.search.proofs.CallRefusals.{CallWays, refuses, accepts, call-ways}
 use Rattle.search.proofs.ShapeKept.{visits-shape, advance-in-shape}
 use Rattle.search.proofs.FinishedCall.{visits-finished}
 use Rattle.checkpoint_loader.specs.Between.{Sized}
 
--- a visit makes one step at most
-visit-step-max : (S : Search) (minimum : ℕ) (s : State) → visit S minimum s .steps ≤ s .steps + 1
+-- A visit makes one step at most.
+pub visit-step-max : (S : Search) (minimum : ℕ) (s : State) → visit S minimum s .steps ≤ s .steps + 1
 visit-step-max S minimum s = go (s .finished) refl
   where
     go : (b : Bool) → s .finished ≡ b → visit S minimum s .steps ≤ s .steps + 1
@@ -61,29 +60,6 @@ module _ (minimum : ℕ) where
   fresh-sized = checkpoint-sized _ (omega arith) (λ h e. absurd (Option·none-ne-some h e)) (omega arith)
 
 module _ (connected : Bool) (P : Problem) (c : Checkpoint) (sized : Sized c) (call : Call) where
-  -- what a call does to its checkpoint: it keeps it, or makes the visits of its budget
-  data KeptOrAdvanced (r : Called) : Type 0 where
-    kept : r .checkpoint ≡ c → KeptOrAdvanced r
-    advanced : SoundProblem P → InShape connected P c → countFits c (call .budget) ≡ true → r ≡ advance connected P c (call .budget) (call .workspace) → KeptOrAdvanced r
-
-  -- a call goes one of the two ways
-  kept-or-advanced : KeptOrAdvanced (called connected P c call)
-  unfolding searchCall
-  kept-or-advanced = go (checkpointAnswer connected P c) refl (leb wordsNeeded (length (call .workspace))) (countFits c (call .budget)) refl
-    where
-      go : (a : Answer) → checkpointAnswer connected P c ≡ a → (w u : Bool) → countFits c (call .budget) ≡ u
-          → KeptOrAdvanced (onPassed a
-          (cond w
-          (cond u (advance connected P c (call .budget) (call .workspace)) (refuse c (call .workspace) 16))
-          (refuse c (call .workspace) 15))
-          (refuse c (call .workspace)))
-      go passed p true true r = let fine = passes-shape connected P c p in advanced (fine .0) (fine .1) r refl
-      go passed p true false r = kept refl
-      go passed p false u r = kept refl
-      go (accepted n) p w u r = kept refl
-      go (refused n) p w u r = kept refl
-      go (refusedAt n at) p w u r = kept refl
-
   -- the steps of an accepted call
   steps-fit : (finished : Bool) → c .finished ≡ finished → (finished || ltb (c .steps + call .budget) (2 ^ 64)) ≡ true
       → visits (searchOf connected P) (c .minimum) (call .budget) (stateOf (P .old .order) c) .steps < 2 ^ 64
@@ -113,16 +89,16 @@ module _ (connected : Bool) (P : Problem) (c : Checkpoint) (sized : Sized c) (ca
 
   -- A call leaves such a checkpoint.
   pub called-sized : Sized (called connected P c call .checkpoint)
-  called-sized = go (called connected P c call) kept-or-advanced
+  called-sized = go (call-ways connected P c (call .budget) (call .workspace))
     where
-      go : (r : Called) → KeptOrAdvanced r → Sized (r .checkpoint)
-      go r (kept e) = rw e sized
-      go r (advanced sound shape fits e) = rw e (advanced-sized sound shape fits)
+      go : CallWays connected P c (call .budget) (call .workspace) → Sized (called connected P c call .checkpoint)
+      go (refuses number e) = rw e sized
+      go (accepts t) = rw (t .advances) (advanced-sized (t .sound) (t .shape) (t .counts))
 
   -- It is in shape again.
   pub called-in-shape : InShape connected P c → InShape connected P (called connected P c call .checkpoint)
-  called-in-shape in-shape = go (called connected P c call) kept-or-advanced
+  called-in-shape in-shape = go (call-ways connected P c (call .budget) (call .workspace))
     where
-      go : (r : Called) → KeptOrAdvanced r → InShape connected P (r .checkpoint)
-      go r (kept e) = rw e in-shape
-      go r (advanced sound shape fits e) = rw e (advance-in-shape connected P sound c (sized .path-long) shape (call .budget) (call .workspace))
+      go : CallWays connected P c (call .budget) (call .workspace) → InShape connected P (called connected P c call .checkpoint)
+      go (refuses number e) = rw e in-shape
+      go (accepts t) = rw (t .advances) (advance-in-shape connected P (t .sound) c (sized .path-long) (t .shape) (call .budget) (call .workspace))

@@ -9,7 +9,7 @@ use types.Run.{OneOf, miss}
 use lib.ListN.{length, take, replicate}
 use lib.Seq.{length-take-le}
 use borrow.Author.Tests.{le-leb, lt-leb}
-use Rattle.answers.specs.Answer.{Answer, accepted, valueOf, whenAccepted}
+use Rattle.answers.specs.Answer.{Answer, accepted, valueOf, whenPassed, whenAccepted}
 use Rattle.answers.specs.Output.{Writing, overwrite}
 use Rattle.answers.proofs.RefusalNumbers.{RefusalNumber}
 use Rattle.problem.specs.Problem.{Problem}
@@ -17,7 +17,7 @@ use Rattle.mapping.specs.Common.{size}
 use Rattle.checkpoint.specs.declared.Checkpoint.{Checkpoint}
 use Rattle.search.specs.declared.Searched.{Searched}
 use Rattle.search.specs.declared.SearchAnswer.{SearchAnswer}
-use Rattle.search.specs.Call.{Called, wordsNeeded, searchCall}
+use Rattle.search.specs.Call.{Called, wordsNeeded, cleared, searchCall}
 use Rattle.search.specs.Answers.{searchAnswer, calledOf}
 use Rattle.search.proofs.SearchAnswer as search-tags
 use Rattle.checkpoint_saver.specs.declared.SaveAnswer.{SaveAnswer}
@@ -34,10 +34,47 @@ use Rattle.checkpoint_loader.proofs.LoadAccepts.{load-in-shape}
 use Rattle.replies.specs.declared.Reply.{Reply}
 use Rattle.replies.specs.declared.ResumeReply.{ResumeReply}
 use Rattle.replies.specs.Reply.{reply, replyOf, tooShort}
-use Rattle.replies.specs.Apart.{FoundBy, cleared}
+use Rattle.replies.specs.Apart.{FoundBy, usedCleared}
 use Rattle.replies.specs.Resumed.{Resumed, resumed, notResumed, saveOn, searchFrom, loadOn, resumeFrom}
 use Rattle.replies.specs.ReadOut.{ReadOut, readOut, notReadOut, heldIn, readCheckpoint, readLoaded, readBytes}
-use Rattle.replies.proofs.CallKept.{Ways, Positive, save-kept, search-kept}
+use Rattle.replies.proofs.CallKept.{Ways, Positive, save-kept, search-kept, enough-cleared}
+
+-- The arms `_` of the code's matches: what does not accept is handed on.
+module _ {A : Type 0} (done : ℕ → A) (refusal : Answer → A) where
+  -- 1 to 3 are the tags of a save's refusals
+  pub off-save : (a : SaveAnswer) → OneOf (1 ∷ 2 ∷ 3 ∷ []) (tagOf save-tags.the-type a) → refusal (saveAnswer a) ≡ whenAccepted (saveAnswer a) done refusal
+  off-save (SaveAnswer.Written n) k = absurd (miss (1 ∷ 2 ∷ 3 ∷ []) 0 tt k)
+  off-save (SaveAnswer.Flawed f) k = refl
+  off-save SaveAnswer.OutOfShape k = refl
+  off-save SaveAnswer.TooShort k = refl
+
+  -- 1 to 4 are those of the answers that are no ceiling
+  pub off-search : (a : SearchAnswer) → OneOf (1 ∷ 2 ∷ 3 ∷ 4 ∷ []) (tagOf search-tags.the-type a) → refusal (searchAnswer a) ≡ whenAccepted (searchAnswer a) done refusal
+  off-search (SearchAnswer.Ceiling n) k = absurd (miss (1 ∷ 2 ∷ 3 ∷ 4 ∷ []) 0 tt k)
+  off-search (SearchAnswer.Flawed f) k = refl
+  off-search SearchAnswer.OutOfShape k = refl
+  off-search SearchAnswer.FewWords k = refl
+  off-search SearchAnswer.ManySteps k = refl
+
+-- 1 to 3 are those of a load's refusals
+pub off-load : {A : Type 0} (done : A) (refusal : Answer → A) (a : LoadAnswer) → OneOf (1 ∷ 2 ∷ 3 ∷ []) (tagOf load-tags.the-type a)
+    → refusal (loadAnswer a) ≡ whenPassed (loadAnswer a) done refusal
+off-load done refusal LoadAnswer.InShape k = absurd (miss (1 ∷ 2 ∷ 3 ∷ []) 0 tt k)
+off-load done refusal (LoadAnswer.Flawed f) k = refl
+off-load done refusal (LoadAnswer.Malformed at) k = refl
+off-load done refusal LoadAnswer.OutOfShape k = refl
+
+-- A refused save leaves the buffer as it was.
+pub unsaved : (connected : Bool) (P : Problem) (c : Checkpoint) (next : List ℕ) (s : SaveAnswer) (after : List ℕ) → savingOf s after ≡ saving connected P c next
+    → OneOf (1 ∷ 2 ∷ 3 ∷ []) (tagOf save-tags.the-type s) → after ≡ next
+unsaved connected P c next s after saves =
+    go s (subst (λ (w : Writing). Ways Positive (Unit {0}) (w .buffer ≡ next) (w .answer)) (sym saves) (save-kept connected P c next))
+  where
+    go : (a : SaveAnswer) → Ways Positive (Unit {0}) (after ≡ next) (saveAnswer a) → OneOf (1 ∷ 2 ∷ 3 ∷ []) (tagOf save-tags.the-type a) → after ≡ next
+    go (SaveAnswer.Written n) h k = absurd (miss (1 ∷ 2 ∷ 3 ∷ []) 0 tt k)
+    go (SaveAnswer.Flawed f) h k = h .1
+    go SaveAnswer.OutOfShape h k = h .1
+    go SaveAnswer.TooShort h k = h .1
 
 module _ (connected : Bool) (P : Problem) (c : Checkpoint) (budget : ℕ) (workspace next : List ℕ)
     (r : Searched) (called : FoundBy r (searchCall connected P c budget workspace))
@@ -52,7 +89,7 @@ module _ (connected : Bool) (P : Problem) (c : Checkpoint) (budget : ℕ) (works
 
     module _ (ceiling : ℕ) (arm : r .answer ≡ SearchAnswer.Ceiling ceiling) where
       -- A call that gives a ceiling was lent the words that it needs, and clears them.
-      pub accepted-words : (wordsNeeded ≤ length workspace) × (left ≡ cleared workspace)
+      accepted-words : (wordsNeeded ≤ length workspace) × (left ≡ cleared workspace)
       accepted-words =
           let e : searchCall connected P c budget workspace .answer ≡ accepted ceiling = sym (ap (λ (q : Called). q .answer) called) ∙ ap searchAnswer arm in
           subst
@@ -73,48 +110,22 @@ module _ (connected : Bool) (P : Problem) (c : Checkpoint) (budget : ℕ) (works
             ∙ ap (λ (a : SearchAnswer). saveOn connected P (with-answer a) workspace next) (sym arm)
             ∙ ap (λ (q : Called). saveOn connected P q workspace next) called
 
-        -- Saved, its count and ceiling are returned, and the lent words are cleared.
-        pub search-saved : (count : ℕ) → s ≡ SaveAnswer.Written count → (words : List ℕ) → words ≡ cleared workspace
+        -- Saved, its count and ceiling are returned, and the lent words that it uses are cleared.
+        pub search-saved : (count : ℕ) → s ≡ SaveAnswer.Written count → (words : List ℕ) → words ≡ usedCleared workspace
             → resumed (reply 0 count) ceiling words after ≡ searchFrom connected P c budget workspace next
         search-saved count written words clear =
-            ap (λ (w : List ℕ). resumed (reply 0 count) ceiling w after) (clear ∙ sym (accepted-words .1))
+            ap (λ (w : List ℕ). resumed (reply 0 count) ceiling w after) (clear ∙ enough-cleared workspace (accepted-words .0) ∙ sym (accepted-words .1))
             ∙ ap by-save (sym written)
             ∙ saved-call
-
-        -- the arm `_`: 1 to 3 are the tags of a save's refusals
-        off-save : (a : SaveAnswer) → OneOf (1 ∷ 2 ∷ 3 ∷ []) (tagOf save-tags.the-type a) → notResumed workspace next (saveAnswer a) ≡ by-save a
-        off-save (SaveAnswer.Written n) k = absurd (miss (1 ∷ 2 ∷ 3 ∷ []) 0 tt k)
-        off-save (SaveAnswer.Flawed f) k = refl
-        off-save SaveAnswer.OutOfShape k = refl
-        off-save SaveAnswer.TooShort k = refl
-
-        -- a refused save leaves the buffer as it was
-        unsaved : OneOf (1 ∷ 2 ∷ 3 ∷ []) (tagOf save-tags.the-type s) → after ≡ next
-        unsaved = go s (subst (λ (w : Writing). Ways Positive (Unit {0}) (w .buffer ≡ next) (w .answer)) (sym saves) (save-kept connected P (r .checkpoint) next))
-          where
-            go : (a : SaveAnswer) → Ways Positive (Unit {0}) (after ≡ next) (saveAnswer a) → OneOf (1 ∷ 2 ∷ 3 ∷ []) (tagOf save-tags.the-type a) → after ≡ next
-            go (SaveAnswer.Written n) h k = absurd (miss (1 ∷ 2 ∷ 3 ∷ []) 0 tt k)
-            go (SaveAnswer.Flawed f) h k = h .1
-            go SaveAnswer.OutOfShape h k = h .1
-            go SaveAnswer.TooShort h k = h .1
 
         -- Not saved, the refusal is handed on, and both lent buffers are as they were.
         pub search-unsaved : OneOf (1 ∷ 2 ∷ 3 ∷ []) (tagOf save-tags.the-type s) → (t : Reply) → t ≡ replyOf (saveAnswer s)
             → resumed t 0 workspace after ≡ searchFrom connected P c budget workspace next
         search-unsaved arm t replied =
-            ap (λ (b : List ℕ). resumed t 0 workspace b) (unsaved arm)
+            ap (λ (b : List ℕ). resumed t 0 workspace b) (unsaved connected P (r .checkpoint) next s after saves arm)
             ∙ ap (λ (u : Reply). resumed u 0 workspace next) replied
-            ∙ off-save s arm
+            ∙ off-save _ (notResumed workspace next) s arm
             ∙ saved-call
-
-    -- the arm `_`: 1 to 4 are the tags of the answers that are no ceiling
-    off-search : (a : SearchAnswer) → OneOf (1 ∷ 2 ∷ 3 ∷ 4 ∷ []) (tagOf search-tags.the-type a)
-        → notResumed workspace next (searchAnswer a) ≡ saveOn connected P (with-answer a) workspace next
-    off-search (SearchAnswer.Ceiling n) k = absurd (miss (1 ∷ 2 ∷ 3 ∷ 4 ∷ []) 0 tt k)
-    off-search (SearchAnswer.Flawed f) k = refl
-    off-search SearchAnswer.OutOfShape k = refl
-    off-search SearchAnswer.FewWords k = refl
-    off-search SearchAnswer.ManySteps k = refl
 
     -- A call that is refused is handed on.
     pub search-refused : OneOf (1 ∷ 2 ∷ 3 ∷ 4 ∷ []) (tagOf search-tags.the-type (r .answer)) → (t : Reply) → t ≡ replyOf (searchAnswer (r .answer))
@@ -122,7 +133,7 @@ module _ (connected : Bool) (P : Problem) (c : Checkpoint) (budget : ℕ) (works
     unfolding searchFrom
     search-refused arm t replied =
         ap (λ (u : Reply). resumed u 0 workspace next) replied
-        ∙ off-search (r .answer) arm
+        ∙ off-search _ (notResumed workspace next) (r .answer) arm
         ∙ ap (λ (q : Called). saveOn connected P q workspace next) called
 
 module _ (connected : Bool) (P : Problem) (bytes : List ℕ) (r : Loaded) (loads : loadingOf r ≡ loading connected P bytes) where
@@ -160,30 +171,16 @@ module _ (connected : Bool) (P : Problem) (bytes : List ℕ) (r : Loaded) (loads
     unfolding resumeFrom
     load-not-searched budget workspace next =
         ap (λ (u : Reply). resumed u 0 workspace next) replied
-        ∙ off-search (r .answer) arm
+        ∙ off-load _ (notResumed workspace next) (r .answer) arm
         ∙ ap (λ (l : Loading). loadOn connected P l budget workspace next) loads
-      where
-        off-search : (a : LoadAnswer) → OneOf (1 ∷ 2 ∷ 3 ∷ []) (tagOf load-tags.the-type a)
-            → notResumed workspace next (loadAnswer a) ≡ loadOn connected P (by a) budget workspace next
-        off-search LoadAnswer.InShape k = absurd (miss (1 ∷ 2 ∷ 3 ∷ []) 0 tt k)
-        off-search (LoadAnswer.Flawed f) k = refl
-        off-search (LoadAnswer.Malformed at) k = refl
-        off-search LoadAnswer.OutOfShape k = refl
 
     -- Nor is anything read out.
     pub load-not-read : (mapping : List ℕ) → notReadOut mapping t ≡ readBytes connected P bytes mapping
     unfolding readBytes
     load-not-read mapping =
         ap (notReadOut mapping) replied
-        ∙ off-read (r .answer) arm
+        ∙ off-load _ (λ (refusal : Answer). notReadOut mapping (replyOf refusal)) (r .answer) arm
         ∙ ap (λ (l : Loading). readLoaded connected P l mapping) loads
-      where
-        off-read : (a : LoadAnswer) → OneOf (1 ∷ 2 ∷ 3 ∷ []) (tagOf load-tags.the-type a)
-            → notReadOut mapping (replyOf (loadAnswer a)) ≡ readLoaded connected P (by a) mapping
-        off-read LoadAnswer.InShape k = absurd (miss (1 ∷ 2 ∷ 3 ∷ []) 0 tt k)
-        off-read (LoadAnswer.Flawed f) k = refl
-        off-read (LoadAnswer.Malformed at) k = refl
-        off-read LoadAnswer.OutOfShape k = refl
 
 -- as many entries as are held
 held-length : (P : Problem) (c : Checkpoint) (entries : ℕ) → entries ≡ cond (c .holds) (P .old .order) 0 → P .old .order ≤ 64

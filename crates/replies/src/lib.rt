@@ -32,6 +32,7 @@ ghost use Rattle.checkpoint_saver.specs.Answers.{saveAnswer};
 ghost use Rattle.checkpoint_loader.specs.Answers.{loadAnswer};
 ghost use Rattle.replies.specs.Reply.{replyOf};
 ghost use Rattle.replies.specs.Checked.{checked, checkedBy};
+ghost use Rattle.replies.specs.Apart.{wordsUsed, usedCleared};
 ghost use Rattle.replies.specs.Resumed.{resumed, searchFrom, resumeFrom};
 ghost use Rattle.replies.specs.ReadOut.{readOut, readCheckpoint, readBytes};
 ghost use Rattle.replies.specs.CliqueReply.{cliqueReply, branchReply};
@@ -95,7 +96,7 @@ pub fn of_save(answer: SaveAnswer) -> Reply
     }
 }
 
-fn of_load(answer: LoadAnswer) -> Reply
+pub fn of_load(answer: LoadAnswer) -> Reply
     ensures { λ r. ⌜ r ≡ replyOf (loadAnswer answer) ⌝ }
 {
     Reply {
@@ -104,7 +105,7 @@ fn of_load(answer: LoadAnswer) -> Reply
     }
 }
 
-fn of_search(answer: SearchAnswer) -> Reply
+pub fn of_search(answer: SearchAnswer) -> Reply
     ensures { λ r. ⌜ r ≡ replyOf (searchAnswer answer) ⌝ }
 {
     Reply {
@@ -140,6 +141,25 @@ pub fn of_mapping(answer: MappingAnswer) -> MappingReply
             value: values::mapping_value(answer),
         },
         earlier: values::earlier_row(answer),
+    }
+}
+
+// Of so many lent words, those that a call uses.
+pub fn words_used(words: usize) -> usize
+    ensures { λ r. ⌜ r ≡ wordsUsed words ⌝ }
+{
+    if words < WORDS { words } else { WORDS }
+}
+
+// These become 0.
+pub fn clear_words(workspace: &mut [u64])
+    ensures { λ _. ⌜ now (workspace .exit) ≡ usedCleared (now (workspace .entry)) ⌝ }
+{
+    let used = words_used(workspace.len());
+    let mut i = 0;
+    while i < used {
+        workspace[i] = 0;
+        i += 1;
     }
 }
 
@@ -185,7 +205,7 @@ fn search_and_save<'a>(
             );
             match saved {
                 SaveAnswer::Written(count) => {
-                    words::clear_words(workspace);
+                    clear_words(workspace);
                     ResumeReply {
                         reply: Reply {
                             number: 0,

@@ -1,4 +1,4 @@
-// A search call over words of its own, and what an accepted one leaves of the lent words.
+// A search call over words of its own, so that the lent ones are untouched.
 
 use checkpoint::Checkpoint;
 use problem::Edges;
@@ -8,11 +8,11 @@ use search::Searched;
 use search::WORDS;
 ghost use mathlib.Core.Path.{_≡_};
 ghost use mathlib.Core.List.{List};
-ghost use Prim.Native.Nat.{ℕ, _≤_};
+ghost use Prim.Native.Nat.{ℕ};
 ghost use lib.ListN.{length};
 ghost use Rattle.problem.specs.Lent.{lent};
-ghost use Rattle.search.specs.Call.{wordsNeeded, searchCall};
-ghost use Rattle.replies.specs.Apart.{FoundBy, cleared};
+ghost use Rattle.search.specs.Call.{searchCall};
+ghost use Rattle.replies.specs.Apart.{FoundBy};
 
 // The search call as over any lent workspace of so many words: too few of them are refused.
 pub fn search_apart<'a>(
@@ -29,7 +29,7 @@ pub fn search_apart<'a>(
         → FoundBy r (searchCall connected (lent orders (labels .entry) (edges .entry) (now (substitutes .entry))) checkpoint budget workspace)) ⌝ }
 {
     let mut own = [0u64; WORDS];
-    let used = if words < WORDS { words } else { WORDS };
+    let used = super::words_used(words);
     search::search(
         orders,
         labels,
@@ -40,16 +40,4 @@ pub fn search_apart<'a>(
         budget,
         &mut own[..used],
     )
-}
-
-// The words that a call needs become 0.
-pub fn clear_words(workspace: &mut [u64])
-    requires { ⌜ wordsNeeded ≤ length (now workspace) ⌝ }
-    ensures { λ _. ⌜ now (workspace .exit) ≡ cleared (now (workspace .entry)) ⌝ }
-{
-    let mut i = 0;
-    while i < WORDS {
-        workspace[i] = 0;
-        i += 1;
-    }
 }

@@ -1,15 +1,18 @@
 -- A search call by its tests in their order: the refusals, and the accepted call on the words that it needs.
-use mathlib.Core.Path.{_≡_, ap, _∙_}
+use mathlib.Core.Path.{_≡_, refl, sym, ap, _∙_}
 use mathlib.Core.Bool.{Bool, true, false}
 use mathlib.Core.List.{List, _++_, append-nil}
 use Prim.Native.Nat.{ℕ, _≤_, _<_}
 use native.Mathlib.Omega.{arith}
 use lib.ListN.{length, take, drop, replicate, drop-of-length-le, length-take}
-use borrow.Author.Tests.{le-leb, lt-leb}
-use Rattle.answers.specs.Answer.{passed, refused}
-use Rattle.problem.specs.Problem.{Problem}
+use lib.Dec.{leb}
+use borrow.Author.Tests.{le-leb, lt-leb, leb-true, leb-false}
+use Rattle.answers.specs.Answer.{Answer, passed, accepted, refused, refusedAt}
+use Rattle.problem.specs.Problem.{Problem, SoundProblem}
 use Rattle.checkpoint.specs.declared.Checkpoint.{Checkpoint}
+use Rattle.checkpoint.specs.Checkpoints.{InShape}
 use Rattle.checkpoint.specs.Checking.{checkpointAnswer}
+use Rattle.checkpoint.proofs.CheckpointPasses.{passes-shape}
 use Rattle.search.specs.Call.{Called, wordsNeeded, refuse, advance, countFits, searchCall}
 
 -- what is changed of a list's first m entries, with its later ones put back
@@ -56,3 +59,31 @@ module _ (connected : Bool) (P : Problem) (c : Checkpoint) (budget : ℕ) (works
       put-back : r .workspace ++ drop wordsNeeded workspace ≡ replicate wordsNeeded 0 ++ drop wordsNeeded workspace
       put-back =
           ap (λ (x : Called). x .workspace ++ drop wordsNeeded workspace) e ∙ front-put-back wordsNeeded (replicate wordsNeeded 0) workspace
+
+  -- what a call that is accepted had before it, and what it does
+  pub record Taken : Type 0 where
+    pub sound : SoundProblem P
+    pub shape : InShape connected P c
+    pub room : wordsNeeded ≤ length workspace
+    pub counts : countFits c budget ≡ true
+    pub advances : searchCall connected P c budget workspace ≡ advance connected P c budget workspace
+
+  pub data CallWays : Type 0 where
+    refuses : (number : ℕ) → searchCall connected P c budget workspace ≡ refuse c workspace number → CallWays
+    accepts : Taken → CallWays
+
+  -- A call is refused, and changes nothing, or accepted.
+  pub call-ways : CallWays
+  unfolding searchCall
+  call-ways = go (checkpointAnswer connected P c) (leb wordsNeeded (length workspace)) (countFits c budget) refl refl refl
+    where
+      go : (a : Answer) (enough fits : Bool) → checkpointAnswer connected P c ≡ a → leb wordsNeeded (length workspace) ≡ enough → countFits c budget ≡ fits → CallWays
+      go passed true true e l f =
+          let both = passes-shape connected P c e in
+          let room = leb-true _ _ l in
+          accepts (record { sound = both .0; shape = both .1; room = room; counts = f; advances = sym (call-accepted e room f) })
+      go passed true false e l f = refuses 16 (sym (call-count e (leb-true _ _ l) f))
+      go passed false fits e l f = refuses 15 (sym (call-words e (leb-false _ _ l)))
+      go (accepted n) enough fits e l f = refuses n (rw e)
+      go (refused n) enough fits e l f = refuses n (rw e)
+      go (refusedAt n at) enough fits e l f = refuses n (rw e)

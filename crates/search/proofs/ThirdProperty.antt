@@ -5,7 +5,6 @@ use mathlib.Core.Bool.{Bool, true, false, true≢false, false≢true}
 use mathlib.Core.List.{List, [], _∷_, _++_}
 use Prim.Native.Nat.{ℕ, _+_, _^_, _≤_, _<_, min}
 use native.Mathlib.Nat.{add-zero, zero-add, add-assoc}
-use native.Mathlib.Decide.{decLe}
 use native.Mathlib.Omega.{arith}
 use lib.ListN.{length, drop, replicate}
 use Rattle.answers.specs.Answer.{Answer, accepted, refused, isRefused}
@@ -16,7 +15,7 @@ use Rattle.search_tree.specs.StepLimit.{stepLimit}
 use Rattle.search_tree.specs.Walk.{State, after, IsTotal}
 use Rattle.search_tree.specs.Ceiling.{ceiling}
 use Rattle.search_tree.specs.Best.{Best}
-use Rattle.search_tree.proofs.Steps.{finished-from, unchanged-after, steps-total, total-unique}
+use Rattle.search_tree.proofs.Steps.{finished-from, unchanged-after, capped-after, steps-total, total-unique}
 use Rattle.search_tree.proofs.WalkTheorems.{incumbent-good, good-below, good-best, walk-ends}
 use Rattle.checkpoint.specs.declared.Checkpoint.{Checkpoint}
 use Rattle.checkpoint.specs.Checkpoints.{freshCheckpoint, checkpointOf, stateOf}
@@ -27,16 +26,16 @@ use Rattle.checkpoint.proofs.StateShape.{walk-state}
 use Rattle.search.proofs.WalkCall.{walkAt, Course, few, full, done, walk-course}
 use Rattle.search.proofs.CallLists.{summed-snoc}
 
--- an answer is judged by the condition that gives it
+-- An answer is judged by the condition that gives it.
 module _ (c : Checkpoint) (call : Call) (answer : Answer) where
-  judged-few : length (call .workspace) < wordsNeeded → answer ≡ refused 15 → Judged c call answer
+  pub judged-few : length (call .workspace) < wordsNeeded → answer ≡ refused 15 → Judged c call answer
   judged-few l a = record {
     words = (λ b. l, λ b. a);
     count = (λ b. let z : _≡_ {A = ℕ} 15 16 = cc in absurd (omega arith), λ h. absurd (omega (arith, h .0)));
     others = inl a;
   }
 
-  judged-full : wordsNeeded ≤ length (call .workspace) → c .finished ≡ false → 2 ^ 64 ≤ c .steps + call .budget → answer ≡ refused 16
+  pub judged-full : wordsNeeded ≤ length (call .workspace) → c .finished ≡ false → 2 ^ 64 ≤ c .steps + call .budget → answer ≡ refused 16
       → Judged c call answer
   judged-full l f m a = record {
     words = (λ b. let z : _≡_ {A = ℕ} 15 16 = cc in absurd (omega arith), λ h. absurd (omega arith));
@@ -44,7 +43,7 @@ module _ (c : Checkpoint) (call : Call) (answer : Answer) where
     others = inr (inl a);
   }
 
-  judged-done : wordsNeeded ≤ length (call .workspace) → (c .finished ≡ true) ⊎ (c .steps + call .budget < 2 ^ 64)
+  pub judged-done : wordsNeeded ≤ length (call .workspace) → (c .finished ≡ true) ⊎ (c .steps + call .budget < 2 ^ 64)
       → (n : ℕ) → answer ≡ accepted n → Judged c call answer
   judged-done l fits n a = record {
     words = (λ b. absurd (true≢false (cc)), λ h. absurd (omega arith));
@@ -119,16 +118,6 @@ module _ (connected : Bool) (P : Problem) (sound : SoundProblem P) (minimum : �
   counted-budget x b = summed-snoc connected P (freshCheckpoint minimum) (x .before) (x .call) ∙ rw b
 
   module _ {t : ℕ} (total : IsTotal (searchOf connected P) minimum t) where
-    -- from the total on nothing changes, so that visits above it need not be counted
-    capped : (k : ℕ) → after (searchOf connected P) minimum (min t k) ≡ after (searchOf connected P) minimum k
-    capped k = go (decLe k t)
-      where
-        go : Dec (k ≤ t) → after (searchOf connected P) minimum (min t k) ≡ after (searchOf connected P) minimum k
-        go (yes h) = let e : min t k ≡ k = omega arith in rw e
-        go (no h) =
-            let e : min t k ≡ t = omega arith in
-            rw e (sym (unchanged-after (searchOf connected P) minimum total k (omega arith)))
-
     walk-steps : (k : ℕ) → walkAt connected P minimum k .steps ≡ min t k
     unfolding checkpointOf
     walk-steps k = omega (arith, steps-total (searchOf connected P) minimum total k)
@@ -146,7 +135,8 @@ module _ (connected : Bool) (P : Problem) (sound : SoundProblem P) (minimum : �
         let late : t ≤ k = finished-from (searchOf connected P) minimum total k .0 e in
         rw (walk-incumbent k, unchanged-after (searchOf connected P) minimum total k late) (good-best connected P sound minimum total)
 
-no-14 : {answer : Answer} → (answer ≡ refused 15) ⊎ ((answer ≡ refused 16) ⊎ ((n : ℕ) × (answer ≡ accepted n))) → answer ≡ refused 14 → ⊥
+-- what is judged by that row is not refused with 14
+pub no-14 : {answer : Answer} → (answer ≡ refused 15) ⊎ ((answer ≡ refused 16) ⊎ ((n : ℕ) × (answer ≡ accepted n))) → answer ≡ refused 14 → ⊥
 no-14 (inl e) a = let z : _≡_ {A = ℕ} 14 15 = cc in omega arith
 no-14 (inr (inl e)) a = let z : _≡_ {A = ℕ} 14 16 = cc in omega arith
 no-14 (inr (inr (n, e))) a = true≢false (cc)
@@ -155,7 +145,7 @@ no-14 (inr (inr (n, e))) a = true≢false (cc)
 pub third-property : (connected : Bool) (P : Problem) → SoundProblem P → (minimum t : ℕ) → IsTotal (searchOf connected P) minimum t
     → (calls : List Call) → ThirdProperty connected P minimum t calls
 third-property connected P sound minimum t total calls = record {
-  judged = λ x. rw (capped connected P sound minimum total (spent connected P minimum (x .before))) (judged x);
+  judged = λ x. rw (capped-after (searchOf connected P) minimum total (spent connected P minimum (x .before))) (judged x);
   never-14 = λ x. no-14 (judged x .others);
   unchanged = λ x b.
       let same = refused-unchanged connected P sound minimum _ _ _ (course connected P sound minimum x) b in
@@ -163,10 +153,10 @@ third-property connected P sound minimum t total calls = record {
   uncounted = uncounted connected P sound minimum;
   counted = counted-budget connected P sound minimum;
   steps = rw (reached-walk connected P sound minimum calls) (walk-steps connected P sound minimum total sum);
-  checkpoint = reached-walk connected P sound minimum calls ∙ ap (checkpointOf minimum) (sym (capped connected P sound minimum total sum));
+  checkpoint = reached-walk connected P sound minimum calls ∙ ap (checkpointOf minimum) (sym (capped-after (searchOf connected P) minimum total sum));
   incumbent = λ h e. incumbent-good connected P sound minimum sum h
       (sym (walk-incumbent connected P sound minimum sum) ∙ sym (ap (incumbentIn P) (reached-walk connected P sound minimum calls)) ∙ e);
-  ceilings = λ x b. rw (capped connected P sound minimum total (spent connected P minimum (upTo x)), counted-budget connected P sound minimum x b) (top-of x b);
+  ceilings = λ x b. rw (capped-after (searchOf connected P) minimum total (spent connected P minimum (upTo x)), counted-budget connected P sound minimum x b) (top-of x b);
   above = λ x top a l good.
       let same = top-of x (ap isRefused a) in
       let e : top ≡ ceiling (rulesOf P) minimum (after (searchOf connected P) minimum (spent connected P minimum (x .before) + x .call .budget)) = cc in

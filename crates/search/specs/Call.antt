@@ -30,18 +30,21 @@ visits S minimum (suc k) s = visit S minimum (visits S minimum k s)
 abbrev pub wordsNeeded : ℕ
 wordsNeeded = 4160
 
+-- "an accepted one leaves these 0 and later words untouched"
+abbrev pub cleared : List ℕ → List ℕ
+cleared workspace = replicate wordsNeeded 0 ++ drop wordsNeeded workspace
+
 -- "Other refusals change no lent memory"
 abbrev pub refuse : Checkpoint → List ℕ → ℕ → Called
 refuse c workspace number = record { answer = refused number; checkpoint = c; workspace = workspace }
 
--- "A call makes as many visits as its allowance says, fewer only if it finishes"; "an accepted one leaves these 0 and later words untouched,
--- and returns the fence"
+-- "A call makes as many visits as its allowance says, fewer only if it finishes", clears these words "and returns the fence"
 abbrev pub arrive : ℕ → Rules → List ℕ → State → Called
 arrive minimum R workspace s =
     record {
       answer = accepted (ceiling R minimum s);
       checkpoint = checkpointOf minimum s;
-      workspace = replicate wordsNeeded 0 ++ drop wordsNeeded workspace;
+      workspace = cleared workspace;
     }
 
 unfoldable pub advance : Bool → Problem → Checkpoint → ℕ → List ℕ → Called

@@ -1,14 +1,14 @@
 -- How the walk counts: k visits make k steps until the total, from which on nothing changes, and the total is branch and bound's.
-use mathlib.Core.Path.{_≡_, refl, sym, ap, subst, _∙_}
+use mathlib.Core.Path.{_≡_, refl, sym, subst, _∙_}
 use mathlib.Core.Logic.{_↔_}
 use mathlib.Core.Bool.{Bool, true, false, cond, true≢false, false≢true}
 use mathlib.Core.Option.{Option, some}
 use mathlib.Core.List.{List, [], _∷_, cons-ne-nil}
-use Prim.Native.Nat.{ℕ, zero, suc, _+_, _≤_, _<_, min}
-use native.Mathlib.Decide.{decLe, le-ind}
+use Prim.Native.Nat.{ℕ, suc, _+_, _≤_, min}
 use native.Mathlib.Omega.{arith}
 use lib.Dec.{ltb}
 use lib.ListN.{length}
+use Rattle.bounded.proofs.Endings.{Ends, done-stays, done-from, capped, counts, ends-unique}
 use Rattle.branch_bound.specs.Tree.{Lawful}
 use Rattle.branch_bound.specs.Search as BranchBound
 use Rattle.branch_bound.proofs.Ends as Ends
@@ -50,53 +50,51 @@ module _ (S : Search) (minimum : ℕ) where
   unfolding visit
   visit-finished s end = rw end
 
-  -- Once finished nothing changes.
-  pub finished-stays : (k j : ℕ) → after S minimum k .finished ≡ true → k ≤ j → after S minimum j ≡ after S minimum k
-  unfolding after
-  finished-stays k j end = le-ind (λ j. after S minimum j ≡ after S minimum k) refl
-      (λ j h same. ap (visit S minimum) same ∙ visit-finished (after S minimum k) end) j
+  -- the walk goes on until it is finished, and then stays
+  abbrev isFinished : State → Bool
+  isFinished s = s .finished
 
-  -- Where each state before was unfinished, k visits made k steps.
-  pub steps-busy : (k : ℕ) → ((j : ℕ) → j < k → after S minimum j .finished ≡ false) → after S minimum k .steps ≡ k
+  stays : (k : ℕ) → after S minimum k .finished ≡ true → after S minimum (suc k) ≡ after S minimum k
   unfolding after
-  steps-busy zero busy = refl
-  steps-busy (suc k) busy =
-      omega (arith, visit-steps (after S minimum k) (busy k (omega arith)), steps-busy k (λ j h. busy j (omega arith)))
+  stays k end = visit-finished (after S minimum k) end
+
+  -- a visit more is a step more until then
+  step-more : (k : ℕ) → after S minimum (suc k) .steps ≡ after S minimum k .steps + cond (after S minimum k .finished) 0 1
+  unfolding after
+  step-more k = go (after S minimum k .finished) refl
+    where
+      go : (b : Bool) → after S minimum k .finished ≡ b → visit S minimum (after S minimum k) .steps ≡ after S minimum k .steps + cond b 0 1
+      go true e = rw (visit-finished (after S minimum k) e) (omega arith)
+      go false e = visit-steps (after S minimum k) e
 
   module _ {t : ℕ} (total : IsTotal S minimum t) where
+    ends : Ends (after S minimum) isFinished stays t
+    ends = record { ended = total .ended; busy = total .busy }
+
     -- The search is finished exactly from the total on.
     pub finished-from : (k : ℕ) → (after S minimum k .finished ≡ true) ↔ (t ≤ k)
-    finished-from k = (
-      λ end. go end (decLe t k),
-      λ h. ap (λ (s : State). s .finished) (finished-stays t k (total .ended) h) ∙ total .ended,
-    )
-      where
-        go : after S minimum k .finished ≡ true → Dec (t ≤ k) → t ≤ k
-        go end (yes h) = h
-        go end (no nh) = absurd (true≢false (sym end ∙ total .busy k (omega arith)))
+    finished-from k = done-from (after S minimum) isFinished stays ends k
 
-    -- Up to the total k visits make k steps.
-    pub steps-before : (k : ℕ) → k ≤ t → after S minimum k .steps ≡ k
-    steps-before k h = steps-busy k (λ j l. total .busy j (omega arith))
-
-    -- From the total on nothing changes.
+    -- From the total on nothing changes,
     pub unchanged-after : (k : ℕ) → t ≤ k → after S minimum k ≡ after S minimum t
-    unchanged-after k h = finished-stays t k (total .ended) h
+    unchanged-after k h = done-stays (after S minimum) isFinished stays t k (total .ended) h
+
+    -- so that visits above it need not be counted.
+    pub capped-after : (k : ℕ) → after S minimum (min t k) ≡ after S minimum k
+    capped-after k = capped (after S minimum) isFinished stays ends k
 
     -- k visits make k steps, or as many as the total if that is less.
     pub steps-total : (k : ℕ) → after S minimum k .steps ≡ min k t
-    steps-total k = go (decLe k t)
-      where
-        go : Dec (k ≤ t) → after S minimum k .steps ≡ min k t
-        go (yes h) = omega (arith, steps-before k h)
-        go (no nh) = omega (arith, ap (λ (s : State). s .steps) (unchanged-after k (omega arith)), steps-before t (omega arith))
+    unfolding after
+    steps-total k = omega (arith, counts (after S minimum) isFinished stays ends (λ k. after S minimum k .steps) refl step-more k)
+
+    -- Up to the total k visits make k steps.
+    pub steps-before : (k : ℕ) → k ≤ t → after S minimum k .steps ≡ k
+    steps-before k h = omega (arith, steps-total k)
 
   -- There is one total.
   pub total-unique : {t u : ℕ} → IsTotal S minimum t → IsTotal S minimum u → t ≡ u
-  total-unique {t} {u} a b =
-      let below : t ≤ u = finished-from a u .0 (b .ended) in
-      let above : u ≤ t = finished-from b t .0 (a .ended) in
-      omega arith
+  total-unique a b = ends-unique (after S minimum) isFinished stays (ends a) (ends b)
 
 -- A search is finished exactly where no node is open.
 pub finished-none-open : (S : Search) (s : State) → (s .finished ≡ true) ↔ (openState S s .nodes ≡ [])

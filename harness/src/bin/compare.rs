@@ -10,10 +10,10 @@ use std::process::ExitCode;
 use std::time::Instant;
 
 use harness::random::Random;
-use harness::scenarios::{Judge, Kind, KINDS};
+use harness::scenarios::{Judge, Kind, KINDS, MANY};
 
 const SEED: u64 = 1;
-const COUNT: usize = 85_000;
+const COUNT: usize = 100_000;
 
 /// How often each pair of numbers came, and pairs that have to come: a number, and each that may
 /// stand second.
@@ -128,6 +128,7 @@ fn summarise(judges: &[Judge]) {
     }
     let [first, second] = searches(judges);
     println!("taken by the first search {first}, by the second {second}");
+    println!("descents begun anew  {}", listed(beginnings(judges)));
 }
 
 /// The second numbers of the pairs that begin with `first`.
@@ -153,12 +154,16 @@ const BESIDE_LIST: &[u32] = &[
 ];
 
 /// Kinds of comparison, and the numbers that have to come in each.
-const ANSWERS: [(&str, &[u32]); 5] = [
+const ANSWERS: [(&str, &[u32]); 9] = [
     ("graph", &[0, 1, 2, 3, 4, 5, 7, 8, 9, 27]),
     ("mover", &[0, 1, 2, 3, 4, 5, 7, 8, 9, 13, 27, 28]),
     ("relisted", &[0, 14]),
     ("rewired", &[0, 14]),
     ("crossed", &[0, 14]),
+    ("floor", &[0, 1, 2, 5, 9, 13, 23, 24, 27]),
+    ("whole", &[0, 1, 13, 14, 15, 16, 17, 23, 24, 27]),
+    ("handed", &[0, 13, 14, 15, 16, 17]),
+    ("lent", &[0, 14, 16, 17, 23, 24]),
 ];
 
 /// What a call is refused with for own edges alone: a checkpoint out of shape, a row of a mapping
@@ -170,8 +175,9 @@ const OWN_EDGES: Wanted<2> = [(14, &[0, 16]), (22, &[0, 19, 20, 21, 22])];
 /// in the first search: nothing (0), or one of the faults that come after it.
 const ISLANDS: Wanted<1> = [(14, &[0, 13, 15, 16])];
 
-/// What never came: each of the faults with each other one, a refusal of graph bytes, and a search
-/// that goes on under another list, with other own edges or as the other search, taken and refused.
+/// What never came: each of the faults with each other one, a refusal of graph bytes, a search that
+/// goes on under another list, with other own edges or as the other search, taken and refused, a
+/// refusal of a descent's call, and one that began anew so many times.
 fn missing(judges: &[Judge]) -> Vec<String> {
     let never = never_came(FAULTS, faults(judges));
     let mut missing: Vec<String> = never.map(|(f, b)| format!("{f} with {b}")).collect();
@@ -188,6 +194,9 @@ fn missing(judges: &[Judge]) -> Vec<String> {
             }
         }
     }
+    let beginnings = beginnings(judges);
+    let never = (0..=MANY).filter(|times| !beginnings.contains_key(times));
+    missing.extend(never.map(|times| format!("a call that began anew {times} times")));
     missing
 }
 
@@ -212,6 +221,10 @@ fn own_edges(judges: &[Judge]) -> Counts {
 
 fn islands(judges: &[Judge]) -> Counts {
     sums(judges.iter().map(|judge| &judge.islands))
+}
+
+fn beginnings(judges: &[Judge]) -> BTreeMap<u32, u64> {
+    sums(judges.iter().map(|judge| &judge.beginnings))
 }
 
 fn searches(judges: &[Judge]) -> [u64; 2] {

@@ -1,6 +1,7 @@
-//! The nine functions of include/golfcedar.h: their answers, and what they leave in lent memory.
+//! The eleven functions of include/golfcedar.h: their answers, and what they leave in lent memory.
 
 use super::{advance, capped_limit, ceiling, check, clique_branch};
+use super::{descend, descent_ceiling, start_minimum};
 use super::{entries_from_bytes, entries_to_bytes, size};
 use super::{Checkpoint, Edition, Graph, Problem, Reason, Refusal, Sought};
 use crate::answer::Answer;
@@ -82,6 +83,50 @@ pub fn read_out(
         })
     });
     answer(read)
+}
+
+pub fn descend_start(
+    old: &[u8],
+    new: &[u8],
+    substitutes: &[u8],
+    _connected: u32,
+    floor: u8,
+    checkpoint: &mut [u8],
+) -> Answer {
+    let started = Problem::parse(old, new, substitutes).and_then(|problem| {
+        let fresh = Checkpoint::fresh(start_minimum(&problem, floor));
+        fill(checkpoint, &fresh.save())
+    });
+    answer(started.map(Answer::accepted))
+}
+
+#[allow(clippy::too_many_arguments)]
+pub fn descend_resume(
+    old: &[u8],
+    new: &[u8],
+    substitutes: &[u8],
+    connected: u32,
+    floor: u8,
+    checkpoint: &[u8],
+    budget: u64,
+    workspace: &mut [u64],
+    next: &mut [u8],
+) -> Answer {
+    let resumed = Problem::parse(old, new, substitutes).and_then(|problem| {
+        let sought = Sought::from_flag(connected);
+        let checkpoint = Checkpoint::load(&problem, sought, checkpoint)?;
+        may_advance(&checkpoint, budget, workspace)?;
+        let (after, visits) = descend(&problem, sought, floor, checkpoint, budget);
+        let value = fill(next, &after.save())?;
+        workspace[..WORKSPACE_WORDS].fill(0);
+        Ok(Answer {
+            value,
+            ceiling: descent_ceiling(&problem, &after) as u64,
+            visits,
+            ..Answer::default()
+        })
+    });
+    answer(resumed)
 }
 
 pub fn clique(

@@ -2,7 +2,7 @@
 use mathlib.Core.Path.{refl}
 use Rattle.problem.specs.Problem.{Problem}
 use Rattle.problem.specs.Lent.{lent}
-use Rattle.replies.proofs.CallArms.{accepted-words, search-saved, search-unsaved, search-refused}
+use Rattle.replies.proofs.CallArms.{search-saved, search-unsaved, search-refused}
 use borrow.Author.Needs.{needs}
 use Rattle.replies.proofs.search_and_save.Statement.{statement}
 use Rattle.replies.proofs.search_and_save.Tie as tie
@@ -40,13 +40,7 @@ enum-known-saved : tie.Need-enum-known-saved
 enum-known-saved c = search needs
 
 clear-words-requires : tie.Need-clear-words-requires
-clear-words-requires c κs =
-    let arm = at-ceiling (at-save (at-written c .before .before)) in
-    let call = at-search (arm .before .before) in
-    let s = at-entry call in
-    let a = s .args in
-    accepted-words (s .args .connected) (asked s) (a .checkpoint) (a .budget) (a .workspace .now) (a .next .now) (call .search-apart .result)
-    (call .search-apart .ensures (a .workspace .now) refl) _ (arm .answer .given .1) .0
+clear-words-requires c κs = search needs
 
 of-save-requires : tie.Need-of-save-requires
 of-save-requires c κs = search needs

@@ -1,4 +1,4 @@
--- `replies::words::clear_words` meets its contract: the words passed are 0, and those after them are kept. Assumes nothing.
+-- `replies::clear_words` meets its contract: the words passed are 0, and those after them are kept. Assumes nothing.
 use mathlib.Core.Path.{_≡_, refl, ap, _∙_}
 use mathlib.Core.List.{List, _++_}
 use Prim.Native.Nat.{ℕ, _-_, _≤_, _<_}
@@ -6,14 +6,17 @@ use native.Mathlib.Omega.{arith}
 use lib.ListN.{length, drop, set, replicate, length-set}
 use borrow.Author.Fill.{fill-none, fill-more}
 use borrow.Author.Needs.{needs}
-use Rattle.replies.proofs.words.clear_words.Statement.{statement}
-use Rattle.replies.proofs.words.clear_words.Tie as tie
+use Rattle.replies.proofs.clear_words.Statement.{statement}
+use Rattle.replies.proofs.clear_words.Tie as tie
 
 abbrev Inv-loop : tie.InvT-loop
-Inv-loop workspace₀ i₀ workspace i = (i ≤ 4160) × (length workspace ≡ length workspace₀) × (workspace ≡ replicate i 0 ++ drop i workspace₀)
+Inv-loop workspace₀ used i₀ workspace i = (i ≤ used) × (length workspace ≡ length workspace₀) × (workspace ≡ replicate i 0 ++ drop i workspace₀)
 
 abbrev μ-loop : tie.MeasureT-loop
-μ-loop workspace₀ i₀ workspace i = 4160 - i
+μ-loop workspace₀ used i₀ workspace i = used - i
+
+words-used-requires : tie.Need-words-used-requires Inv-loop μ-loop
+words-used-requires c κs = search needs
 
 loop-holds : tie.Need-loop-holds Inv-loop μ-loop
 loop-holds c = (search needs, refl, fill-none _ 0)
@@ -33,7 +36,7 @@ loop-less c = search needs
 loop-again : tie.Need-loop-again Inv-loop μ-loop
 loop-again c =
     let l = c .before .loop in
-    let room : l .i < length (c .before .before .args .workspace .now) = omega arith in
+    let room : l .i < length (c .before .before .before .before .args .workspace .now) = omega (arith, c .before .before .words-used .ensures) in
     (search needs, simp length-set (l .inv .1), ap (λ (w : List ℕ). set w (l .i) 0) (l .inv .2) ∙ fill-more (l .i) 0 _ room)
 
 same-length : tie.Need-same-length Inv-loop μ-loop
@@ -42,8 +45,9 @@ same-length c = c .before .loop .inv .1
 returns : tie.Need-returns Inv-loop μ-loop
 returns c =
     let l = c .before .loop in
-    let all : l .i ≡ 4160 = omega arith in
-    rw all at (l .inv .2)
+    let used = c .before .before .words-used in
+    let all : l .i ≡ used .result = omega arith in
+    rw (all ∙ used .ensures) at (l .inv .2)
 
 pub clear-words-spec : {M : Type 1} → statement M
 clear-words-spec =
@@ -51,6 +55,7 @@ clear-words-spec =
     (tie.spec
     Inv-loop
     μ-loop
+    words-used-requires
     loop-holds
     mul-workspace
     slice-write-workspace

@@ -1,0 +1,14 @@
+pub mod CallTurn
+pub mod DescentCalls
+pub mod DescentCourse
+pub mod DescentEnds
+pub mod DescentLaws
+pub mod DescentProperty
+pub mod Examples
+pub mod HeldBest
+pub mod LoopTurn
+pub mod LoweredCeiling
+pub mod MostPairs
+pub mod OneSearch
+pub mod Standing
+pub mod StartCall

@@ -1,0 +1,5 @@
+pub mod Descent
+pub mod Call
+pub mod Answers
+pub mod Calls
+pub mod DescentProperty

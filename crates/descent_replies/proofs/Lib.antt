@@ -1,0 +1,2 @@
+pub mod DescentKept
+pub mod DescentArms
