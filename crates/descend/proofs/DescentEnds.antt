@@ -1,17 +1,18 @@
 -- A descent of a sound problem ends: each search is done after its total, or exhausted, and then the next is one lower.
-use mathlib.Core.Path.{_≡_, refl, sym, ap, _∙_}
+use mathlib.Core.Path.{_≡_, sym, ap, _∙_}
 use mathlib.Core.Bool.{Bool, true}
 use Prim.Native.Nat.{ℕ, zero, suc, _+_, _-_, _*_, _≤_, _<_}
-use native.Mathlib.Nat.{suc-mul}
+use native.Mathlib.Nat.{zero-add, suc-mul}
 use native.Mathlib.Omega.{arith}
 use Rattle.problem.specs.Problem.{Problem, SoundProblem}
 use Rattle.search_tree.specs.Search.{Search, searchOf}
 use Rattle.search_tree.specs.Rules.{rulesOf}
 use Rattle.search_tree.specs.StepLimit.{stepLimit}
-use Rattle.search_tree.specs.Walk.{State, fresh, visit, after}
+use Rattle.search_tree.specs.Walk.{State, fresh, after}
 use Rattle.search_tree.proofs.WalkTheorems.{walk-ends}
 use Rattle.checkpoint.specs.Checkpoints.{hasIncumbent}
 use Rattle.search.specs.Call.{visits}
+use Rattle.search.proofs.WalkCall.{visits-after}
 use Rattle.descend.specs.Descent.{freshAt, descents, isDone, startOf, descentAfter, IsTotal}
 use Rattle.bounded.proofs.Endings.{done-stays, ends-exist, ends-unique}
 use Rattle.descend.proofs.OneSearch.{Goes, stays, renews, goes, exhausted-facts}
@@ -19,9 +20,8 @@ use Rattle.descend.proofs.DescentLaws.{descents-add, descents-stay, tot
 
 -- visits from a search that has not begun are the walk
 visits-fresh : (S : Search) (minimum k : ℕ) → visits S minimum k fresh ≡ after S minimum k
-unfolding visits after
-visits-fresh S minimum zero = refl
-visits-fresh S minimum (suc k) = ap (visit S minimum) (visits-fresh S minimum k)
+unfolding after
+visits-fresh S minimum k = visits-after S minimum k 0 ∙ ap (after S minimum) (zero-add k)
 
 module _ (connected : Bool) (P : Problem) (sound : SoundProblem P) (floor : ℕ) where
   abbrev S : Search

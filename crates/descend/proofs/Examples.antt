@@ -1,4 +1,4 @@
--- The descent on small graphs, computed by the definitions that the contracts cite: 01's pair P, and two of its other marked examples.
+-- The descent on small graphs, computed by the definitions that the contracts cite: 01's pair P, others of its marked examples, and the loose parts of 02, U7.
 use mathlib.Core.Path.{_≡_, refl}
 use mathlib.Core.List.{List, [], _∷_}
 use mathlib.Core.Option.{Option, none, some}

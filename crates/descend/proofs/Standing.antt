@@ -23,6 +23,7 @@ use Rattle.search_tree.proofs.Steps.{finished-from, unchanged-after}
 use Rattle.search_tree.proofs.Solutions.{ceiling-falls}
 use Rattle.search_tree.proofs.WalkTheorems.{rules-regular, incumbent-good, good-below, good-best, walk-ends}
 use Rattle.checkpoint.specs.Checkpoints.{hasIncumbent}
+use Rattle.search.proofs.FinishedCall.{ceiling-finished}
 use Rattle.descend.specs.Descent.{Descent, freshAt, startOf, isExhausted, exhausted, renewed, visited, descents, isDone, lowered, descentCeiling}
 use Rattle.descend.proofs.OneSearch.{Exhausted, exhausted-facts, renewed-same, renewed-anew}
 use Rattle.descend.proofs.DescentLaws.{descents-settled}
@@ -43,11 +44,6 @@ lower-best floor low b = record {
   largest = b .largest;
   first = b .first;
 }
-
--- a finished state's ceiling is its cutoff
-ceiling-finished : (P : Problem) (minimum : ℕ) (s : State) → s .finished ≡ true → ceiling (rulesOf P) minimum s ≡ cutoff minimum (s .incumbent)
-unfolding ceiling
-ceiling-finished P minimum s end = rw end
 
 -- what an exhausted descent is
 exhausted-is : (floor : ℕ) (d : Descent) → exhausted floor d ≡ true → Exhausted floor (d .minimum) (d .state .finished) (hasIncumbent (d .state .incumbent))
@@ -135,7 +131,7 @@ module _ (connected : Bool) (P : Problem) (sound : SoundProblem P) (floor : ℕ)
         top = ceiling (rulesOf P) (d .minimum) (d .state)
 
         top-is : top ≡ cutoff (d .minimum) (d .state .incumbent)
-        top-is = ceiling-finished P (d .minimum) (d .state) end
+        top-is = ceiling-finished (rulesOf P) (d .minimum) (d .state) end
 
         below : (held : Option (List ℕ)) → Best (Good connected P) (d .minimum) held → size l < cutoff (d .minimum) held
         below none b = b .none-reaches refl l good
@@ -195,7 +191,7 @@ module _ (connected : Bool) (P : Problem) (sound : SoundProblem P) (floor : ℕ)
     -- and once done with nothing held, where the search is not exhausted, it is the floor.
     pub ceiling-none : isDone d ≡ true → exhausted floor d ≡ false → d .state .incumbent ≡ none → descentCeiling (rulesOf P) d ≡ floor
     ceiling-none end off e =
-        let top : ceiling (rulesOf P) (d .minimum) (d .state) ≡ d .minimum = ceiling-finished P (d .minimum) (d .state) end ∙ ap (cutoff (d .minimum)) e in
+        let top : ceiling (rulesOf P) (d .minimum) (d .state) ≡ d .minimum = ceiling-finished (rulesOf P) (d .minimum) (d .state) end ∙ ap (cutoff (d .minimum)) e in
         omega (arith, ceiling-lowered, top, at-floor floor d end off e, stands .walks .low)
 
     -- Every mapping that counts is below the ceiling.
@@ -221,7 +217,7 @@ module _ (connected : Bool) (P : Problem) (sound : SoundProblem P) (floor : ℕ)
       exhausted-ceiling : descentCeiling (rulesOf P) d ≡ d .minimum
       exhausted-ceiling =
           let top : ceiling (rulesOf P) (d .minimum) (d .state) ≡ d .minimum =
-          ceiling-finished P (d .minimum) (d .state) (exhausted-is floor d on .ended) ∙ ap (cutoff (d .minimum)) (exhausted-none floor d on) in
+          ceiling-finished (rulesOf P) (d .minimum) (d .state) (exhausted-is floor d on .ended) ∙ ap (cutoff (d .minimum)) (exhausted-none floor d on) in
           omega (arith, ceiling-lowered, top)
 
     -- A new beginning stands too,

@@ -25,8 +25,8 @@ pub visits-finished : (S : Search) (minimum k : ℕ) (s : State) → s .finished
 unfolding visits
 visits-finished S minimum k s end = visits-stay S minimum s 0 k end zero-le
 
--- a finished state's ceiling is its cutoff
-ceiling-finished : (R : Rules) (minimum : ℕ) (s : State) → s .finished ≡ true → ceiling R minimum s ≡ cutoff minimum (s .incumbent)
+-- A finished state's ceiling is its cutoff.
+pub ceiling-finished : (R : Rules) (minimum : ℕ) (s : State) → s .finished ≡ true → ceiling R minimum s ≡ cutoff minimum (s .incumbent)
 unfolding ceiling
 ceiling-finished R minimum s end = rw end
 

@@ -21,8 +21,8 @@ use Rattle.checkpoint.proofs.CheckpointPasses.{shape-passes}
 use Rattle.checkpoint.proofs.ShapeTest.{shape-test}
 use Rattle.checkpoint.proofs.StateShape.{walk-in-shape, walk-state}
 
--- b visits from the state after k visits lead to the state after k + b visits
-visits-after : (S : Search) (minimum b k : ℕ) → visits S minimum b (after S minimum k) ≡ after S minimum (k + b)
+-- b visits from the state after k visits lead to the state after k + b visits.
+pub visits-after : (S : Search) (minimum b k : ℕ) → visits S minimum b (after S minimum k) ≡ after S minimum (k + b)
 unfolding visits after
 visits-after S minimum zero k = rw add-zero
 visits-after S minimum (suc b) k = rw (add-suc k b, visits-after S minimum b k)
