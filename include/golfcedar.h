@@ -1,7 +1,7 @@
 /* Golfcedar: the largest common subgraph of two labelled graphs, or the largest connected one, by a proved search that can be stopped and resumed.
  *
- * Link with libc_api.a (`rt staticlib c_api`). Every function here is proved against a definition: docs/PROMISES.md, "The library
- * to link", names each.
+ * Link with libgolfcedar (`make library`, `make install`), or with libc_api.a (`rt staticlib c_api`), which has the same functions. Every function here is
+ * proved against a definition: docs/PROMISES.md, "The library to link", names each.
  *
  * Graphs, substitutes, mappings and checkpoints are plain bytes; README.md has their forms. The caller owns every buffer: nothing is kept after
  * a call returns, nothing is allocated. A pointer with a length of 0 may be any non-null pointer. What is written, buffers and number
@@ -13,10 +13,11 @@
  * has no beginning of its own, and a vertex is `1 label`, with a label from 1 to 255. Only `golfcedar_to_edition_2` reads it, and only `golfcedar_to_edition_1`
  * writes it.
  *
- * Every function returns 0 where it accepts, else a refusal's number. They are tested in the order in which the function names them, graph bytes command by
- * command and a mapping row by row, and the first condition met gives the number. The number results (`value`, `earlier`, `steps`, `size`, `ceiling`, `visits`)
- * are the rest of the answer, and every call writes all of them: accepted, what the function says; refused, `value` as below, and `earlier` with 20 and 22; and 0
- * where the answer says nothing. A refusal changes none of the buffers that were lent (`checkpoint`, `workspace`, `next`, `mapping`, `out`).
+ * Every function but `golfcedar_version` returns 0 where it accepts, else a refusal's number. Refusals are tested in the order in which the function names
+ * them, graph bytes command by command and a mapping row by row, and the first condition met gives the number. The number results (`value`, `earlier`,
+ * `about`, `steps`, `size`, `ceiling`, `visits`) are the rest of the answer, and every call writes all of them: accepted, what the function says; refused,
+ * `value` as below, `earlier` with 20 and 22, and `about`; and 0 where the answer says nothing. A refusal changes none of the buffers that were lent
+ * (`checkpoint`, `workspace`, `next`, `mapping`, `out`, `text`).
  *
  *    number  refused because                                                             value
  *    27      a graph's bytes begin with anything but 4 2; empty, or 4 alone, is 1        place, always 0
@@ -41,8 +42,8 @@
  *    26      a number of vertices above 64, for `golfcedar_step_limit`                   0
  *
  * A place is an offset: that of the command at fault, of the first byte that cannot stand there, or the length where the end is missing.
- * 6 is no refusal's number, and 10, 11 and 12, of lent tables, are never given. Where two graphs are given, the old one is read first; if
- * `golfcedar_check_graph` accepts the old one, 27 or a number from 1 to 9 is about the new one.
+ * 6 is no refusal's number, and 10, 11 and 12, of lent tables, are never given. Where two graphs are given, the old one is read first, and
+ * `golfcedar_check_problem` tells which of the two 27 or a number from 1 to 9 is about. `golfcedar_reason` has a text for each number.
  *
  * `substitutes` says which vertex labels agree beside equal ones, which always do: pairs of labels of two bytes each, the lower first: the label of an old
  * vertex, then the label of a new vertex that may stand in for it; at most 256 pairs. A pair holds one way only, and pairs do not chain: by 7 0 8 0 8 0 9 0 an
@@ -70,6 +71,13 @@
 extern "C" {
 #endif
 
+/* The version of this header. The major number rises where a program that was compiled before would be wrong with the new library, and is the number of its
+ * soname; the minor one where functions are added; the patch where neither is so. */
+#define GOLFCEDAR_VERSION_MAJOR 1
+#define GOLFCEDAR_VERSION_MINOR 0
+#define GOLFCEDAR_VERSION_PATCH 0
+#define GOLFCEDAR_VERSION (65536 * GOLFCEDAR_VERSION_MAJOR + 256 * GOLFCEDAR_VERSION_MINOR + GOLFCEDAR_VERSION_PATCH)
+
 /* No graph has more bytes than this. */
 #define GOLFCEDAR_GRAPH_BYTES 8515
 /* No graph of edition 1 has more bytes than this. */
@@ -82,10 +90,25 @@ extern "C" {
 #define GOLFCEDAR_SUBSTITUTES_BYTES 1024
 /* `golfcedar_clique` takes at most this many old vertices. */
 #define GOLFCEDAR_CLIQUE_VERTICES 8
+/* No refusal's text has more bytes than this. */
+#define GOLFCEDAR_REASON_BYTES 80
 /* In a mapping: an old vertex that is left out. */
 #define GOLFCEDAR_UNMAPPED 255
 /* From `golfcedar_step_limit`: so many steps or more. */
 #define GOLFCEDAR_STEP_LIMIT_CAP UINT64_MAX
+
+/* The version of the library: GOLFCEDAR_VERSION of the header that belongs to it. It refuses nothing. */
+uint32_t golfcedar_version(void);
+
+/* The text of a refusal's number, for people: printable ASCII, with no end mark (print it with "%.*s"). Accepted: it stands in the first *value bytes of `text`,
+ * and later bytes are untouched; a number that is no refusal's has the empty text. Refused: 13 if it does not fit, never with GOLFCEDAR_REASON_BYTES. */
+uint32_t golfcedar_reason(uint32_t number, uint8_t *text, size_t text_len, uint64_t *value);
+
+/* What every call on two graphs and substitutes tests before all else, and which of the three is at fault. Accepted: *value and *about are 0. Refused: 27 and
+ * 1 to 9 of the old graph, *about is 1; then of the new graph, *about is 2; then 23 and 24, *about is 3. A call that is refused for one of them is refused with the
+ * same number and value. */
+uint32_t golfcedar_check_problem(const uint8_t *old_graph, size_t old_len, const uint8_t *new_graph, size_t new_len,
+                                 const uint8_t *substitutes, size_t substitutes_len, uint64_t *value, uint64_t *about);
 
 /* Is this a graph? Accepted: *value is its number of vertices. Refused: 27; 1 to 9. */
 uint32_t golfcedar_check_graph(const uint8_t *graph, size_t graph_len, uint64_t *value);

@@ -9,3 +9,4 @@ pub mod DescentBytes
 pub mod Branching
 pub mod Moves
 pub mod Wrote
+pub mod Version

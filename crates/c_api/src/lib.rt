@@ -6,7 +6,11 @@ use graph::Label;
 use graph::MAX_ORDER;
 use graph_reader::Edition;
 use problem_reader::ProblemRead;
+use reasons::ReasonAnswer;
 ghost use mathlib.Core.Path.{_≡_};
+ghost use Rattle.answers.specs.Output.{fill};
+ghost use Rattle.reasons.specs.Reasons.{reasonText};
+ghost use Rattle.inputs.specs.Judging.{judged, judging};
 ghost use Rattle.step_limit.specs.StepLimits.{foretold};
 ghost use Rattle.replies.specs.Reply.{reply, replyOf};
 ghost use Rattle.replies.specs.Checked.{checked};
@@ -20,18 +24,63 @@ ghost use Rattle.c_api.specs.Descents.{descendStarting, descendResuming}
 ghost use Rattle.c_api.specs.ReadOut.{readingOut};
 ghost use Rattle.c_api.specs.Branching.{branching};
 ghost use Rattle.c_api.specs.Moves.{movingTo};
-ghost use Rattle.c_api.specs.Wrote.{wrote};
+ghost use Rattle.c_api.specs.Wrote.{wrote, wroteBy};
+ghost use Rattle.c_api.specs.Version.{version};
+
+// 1.0.0: major, minor and patch, a byte each for the last two.
+const VERSION: u32 = 65536;
 
 // Whether the bytes are a graph.
 #[no_mangle]
 pub extern "C" fn golfcedar_check_graph(graph: &[u8], value: &mut u64) -> u32
     ensures { λ r. ⌜ reply r (now (value .exit)) ≡ checkingGraph (now (graph .entry)) ⌝ }
 {
-    let mut labels = [0 as Label; MAX_ORDER];
-    let mut edges = [0u8; EDGE_BYTES];
-    let reply = replies::of_read(graph_reader::read_graph(graph, &mut labels, &mut edges));
+    let reply = inputs::judge_graph(graph);
     *value = reply.value;
     reply.number
+}
+
+// Whether two graphs and a list are ones, which every call on them tests first, and which of the three is not.
+#[no_mangle]
+pub extern "C" fn golfcedar_check_problem(
+    old_graph: &[u8],
+    new_graph: &[u8],
+    substitutes: &[u8],
+    value: &mut u64,
+    about: &mut u64,
+) -> u32
+    ensures { λ r. ⌜ judged (now (about .exit)) (reply r (now (value .exit)))
+        ≡ judging (now («old_graph» .entry)) (now («new_graph» .entry)) (now (substitutes .entry)) ⌝ }
+{
+    let judgement = inputs::judge(old_graph, new_graph, substitutes);
+    *value = judgement.reply.value;
+    *about = judgement.about;
+    judgement.reply.number
+}
+
+// The text of a refusal's number.
+#[no_mangle]
+pub extern "C" fn golfcedar_reason(number: u32, text: &mut [u8], value: &mut u64) -> u32
+    ensures { λ r. ⌜ wrote (reply r (now (value .exit))) (now (text .exit)) ≡ wroteBy (fill (reasonText number) (now (text .entry))) ⌝ }
+{
+    match reasons::reason(number, text) {
+        ReasonAnswer::Written(length) => {
+            *value = length as u64;
+            0
+        }
+        ReasonAnswer::TooShort => {
+            *value = 0;
+            13
+        }
+    }
+}
+
+// The library's version.
+#[no_mangle]
+pub extern "C" fn golfcedar_version() -> u32
+    ensures { λ r. ⌜ r ≡ version ⌝ }
+{
+    VERSION
 }
 
 // Moves graph bytes of edition 1 to edition 2.
