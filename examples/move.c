@@ -11,7 +11,8 @@
  * A file moves back only if each of its labels fits a byte. The file that is written has to be a
  * new one: a file that is there already is never overwritten, and a run that fails writes none.
  *
- * `refused NUMBER at byte PLACE` is a refusal of include/golfcedar.h; the first byte is byte 0. The
+ * `refused NUMBER at byte PLACE: TEXT` is a refusal of include/golfcedar.h, with the library's own
+ * text; the first byte is byte 0. A file that is moved already is refused with 2 at byte 0. The
  * status is 0 if the file was moved, 1 if the library refused it, and 2 for anything else.
  */
 #include <errno.h>
@@ -31,25 +32,6 @@ static void fail(const char *name, const char *why)
     exit(2);
 }
 
-/* Only the numbers that a move can give: 13 is none, since there is room for every graph. */
-static const char *meaning(uint32_t number, int back)
-{
-    switch (number) {
-    case 1: return "cut off: a command is not whole, or the end is missing";
-    case 2: return back ? "not a command of edition 2"
-                        : "not a command of edition 1 (if it begins with 4 2, it is moved already)";
-    case 3: return "a vertex with label 0";
-    case 4: return "a 65th vertex, and a graph has at most 64";
-    case 5: return "an edge of a vertex that is not given before it";
-    case 7: return "an edge with label 0";
-    case 8: return "an edge that is given already";
-    case 9: return "more bytes after the end";
-    case 27: return "not a file of edition 2, which begins with 4 2";
-    case 28: return "a vertex with a label above 255, which edition 1 does not have";
-    default: return "not a number that a move gives";
-    }
-}
-
 /* Answers the length, at most READ. A longer file is no graph, and its fault stands before that. */
 static size_t load(const char *name, uint8_t *bytes)
 {
@@ -61,6 +43,16 @@ static size_t load(const char *name, uint8_t *bytes)
         fail(name, "cannot be read");
     fclose(stream);
     return length;
+}
+
+static int refused(const char *name, uint32_t number, uint64_t place)
+{
+    uint8_t text[GOLFCEDAR_REASON_BYTES];
+    uint64_t length;
+    golfcedar_reason(number, text, sizeof text, &length);
+    fprintf(stderr, "move: %s: refused %" PRIu32 " at byte %" PRIu64 ": %.*s\n", name, number,
+            place, (int)length, (const char *)text);
+    return 1;
 }
 
 /* The x has it refused if there is such a file: so what is removed is only what was begun here. */
@@ -89,11 +81,8 @@ int main(int count, char **arguments)
     uint64_t value;
     uint32_t number = back ? golfcedar_to_edition_1(graph, length, moved, sizeof moved, &value)
                            : golfcedar_to_edition_2(graph, length, moved, sizeof moved, &value);
-    if (number != 0) {
-        fprintf(stderr, "move: %s: refused %" PRIu32 " at byte %" PRIu64 ": %s\n", from, number,
-                value, meaning(number, back));
-        return 1;
-    }
+    if (number != 0)
+        return refused(from, number, value);
     save(to, moved, value);
     return 0;
 }

@@ -26,8 +26,8 @@
  * refused if the search in the file started with another one, and a file is refused if it was saved
  * for other graphs or substitutes, or for the other search, or as a descent if this is none: a
  * checkpoint alone does not tell of which it is, and a finished one would give the answer for those.
- * `refused NUMBER (VALUE)` is a refusal of include/golfcedar.h. A run that is refused leaves the file
- * as it was.
+ * `refused NUMBER (VALUE): TEXT` is a refusal of include/golfcedar.h, with the library's own text,
+ * after the file that it is about. A run that is refused leaves the file CHECKPOINT as it was.
  *
  * The file has four parts: the bytes of the old graph, of the new graph, of the substitutes and of
  * the checkpoint, each after its length, which takes two bytes, the lower first. The first three
@@ -82,10 +82,14 @@ static _Noreturn void fail(const char *what, const char *name, const char *why)
 
 static void accept_or_exit(const char *what, const char *name, uint32_t number, uint64_t value)
 {
-    if (number != 0) {
-        fprintf(stderr, "%s %s: refused %" PRIu32 " (%" PRIu64 ")\n", what, name, number, value);
-        exit(EXIT_FAILURE);
-    }
+    uint8_t text[GOLFCEDAR_REASON_BYTES];
+    uint64_t length;
+    if (number == 0)
+        return;
+    golfcedar_reason(number, text, sizeof text, &length);
+    fprintf(stderr, "%s %s: refused %" PRIu32 " (%" PRIu64 "): %.*s\n", what, name, number, value,
+            (int)length, (const char *)text);
+    exit(EXIT_FAILURE);
 }
 
 /* A number is the word that it is printed as: so nothing else is taken for one. */

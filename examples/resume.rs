@@ -24,8 +24,8 @@
 //! refused if the search in the file started with another one, and a file is refused if it was
 //! saved for other graphs or substitutes, or for the other search, or as a descent if this is none:
 //! a checkpoint alone does not tell of which it is, and a finished one would give the answer for
-//! those. `refused NUMBER (VALUE)` is a refusal of include/golfcedar.h. A run that is refused leaves
-//! the file as it was.
+//! those. `refused NUMBER (VALUE): TEXT` is a refusal of include/golfcedar.h, with the library's own
+//! text, after the file that it is about. A run that is refused leaves the file CHECKPOINT as it was.
 //!
 //! The file has four parts: the bytes of the old graph, of the new graph, of the substitutes and of
 //! the checkpoint, each after its length, which takes two bytes, the lower first. The first three
@@ -48,9 +48,8 @@ use std::str::FromStr;
 
 use harness::answer::Answer;
 use harness::library::{self, CHECKPOINT_BYTES, CONNECTED_SEARCH, FIRST_SEARCH, GRAPH_BYTES};
-use harness::library::{
-    MAX_VERTICES, NO_SUBSTITUTES, SUBSTITUTES_BYTES, UNMAPPED, WORKSPACE_WORDS,
-};
+use harness::library::{MAX_VERTICES, NO_SUBSTITUTES, REASON_BYTES, SUBSTITUTES_BYTES};
+use harness::library::{UNMAPPED, WORKSPACE_WORDS};
 
 const USAGE: &str = "resume needs: [--connected] [--descend] [--substitute LABEL:LABEL]... \
     OLD NEW CHECKPOINT BUDGET [MINIMUM]";
@@ -164,14 +163,19 @@ fn load_graph(what: &str, name: &str) -> Result<Vec<u8>, String> {
 }
 
 fn accepted(what: &str, name: &str, answer: Answer) -> Result<Answer, String> {
+    let Answer { number, value, .. } = answer;
     if answer.is_accepted() {
         Ok(answer)
     } else {
-        Err(format!(
-            "{what} {name}: refused {} ({})",
-            answer.number, answer.value
-        ))
+        let text = reason(number);
+        Err(format!("{what} {name}: refused {number} ({value}): {text}"))
     }
+}
+
+fn reason(number: u32) -> String {
+    let mut text = [0; REASON_BYTES];
+    let length = library::reason(number, &mut text).value as usize;
+    String::from_utf8_lossy(&text[..length]).into_owned()
 }
 
 /// What a saved file has.

@@ -7,6 +7,7 @@ pub struct Answer {
     pub number: u32,
     pub value: u64,
     pub earlier: u64,
+    pub about: u64,
     pub steps: u64,
     pub size: u64,
     pub ceiling: u64,

@@ -9,10 +9,11 @@ use crate::library::FIRST_SEARCH;
 use crate::reference::{Edition, Graph, Reason, Refusal, UNMAPPED, WORKSPACE_WORDS};
 use crate::{library, reference};
 
-/// The eleven functions of include/golfcedar.h.
+/// The functions of include/golfcedar.h, but for the version and the refusals' texts.
 #[allow(clippy::type_complexity)]
 pub struct Implementation {
     pub name: &'static str,
+    pub check_problem: fn(&[u8], &[u8], &[u8]) -> Answer,
     pub check_graph: fn(&[u8]) -> Answer,
     pub check_mapping: fn(&[u8], &[u8], &[u8], &[u8]) -> Answer,
     pub start: fn(&[u8], &[u8], &[u8], u32, u8, &mut [u8]) -> Answer,
@@ -29,6 +30,7 @@ pub struct Implementation {
 
 pub const LIBRARY: Implementation = Implementation {
     name: "library",
+    check_problem: library::check_problem,
     check_graph: library::check_graph,
     check_mapping: library::check_mapping,
     start: library::start,
@@ -44,6 +46,7 @@ pub const LIBRARY: Implementation = Implementation {
 
 pub const REFERENCE: Implementation = Implementation {
     name: "reference",
+    check_problem: reference::check_problem,
     check_graph: reference::check_graph,
     check_mapping: reference::check_mapping,
     start: reference::start,
@@ -132,6 +135,9 @@ pub struct Given {
 
 #[derive(Clone, Debug, PartialEq, Eq)]
 pub enum Call {
+    CheckProblem {
+        given: Given,
+    },
     CheckGraph {
         graph: Vec<u8>,
     },
@@ -282,6 +288,9 @@ impl Call {
     pub fn made_by(&self, by: &Implementation) -> Outcome {
         let mut memory = self.clone();
         let answer = match &mut memory {
+            Call::CheckProblem { given } => {
+                (by.check_problem)(&given.old, &given.new, &given.substitutes)
+            }
             Call::CheckGraph { graph } => (by.check_graph)(graph),
             Call::CheckMapping { given, mapping } => {
                 (by.check_mapping)(&given.old, &given.new, &given.substitutes, mapping)
@@ -371,7 +380,8 @@ impl Call {
     pub fn given(&self) -> Option<&Given> {
         match self {
             Call::CheckGraph { .. } | Call::StepLimit { .. } | Call::Move(_) => None,
-            Call::CheckMapping { given, .. }
+            Call::CheckProblem { given }
+            | Call::CheckMapping { given, .. }
             | Call::Start { given, .. }
             | Call::DescendStart { given, .. }
             | Call::Resume(Resume { given, .. })
@@ -383,7 +393,8 @@ impl Call {
     fn given_mut(&mut self) -> Option<&mut Given> {
         match self {
             Call::CheckGraph { .. } | Call::StepLimit { .. } | Call::Move(_) => None,
-            Call::CheckMapping { given, .. }
+            Call::CheckProblem { given }
+            | Call::CheckMapping { given, .. }
             | Call::Start { given, .. }
             | Call::DescendStart { given, .. }
             | Call::Resume(Resume { given, .. })
@@ -435,6 +446,7 @@ impl Call {
 
     fn function(&self) -> &'static str {
         match self {
+            Call::CheckProblem { .. } => "golfcedar_check_problem",
             Call::CheckGraph { .. } => "golfcedar_check_graph",
             Call::CheckMapping { .. } => "golfcedar_check_mapping",
             Call::Start { .. } => "golfcedar_start",
@@ -464,6 +476,7 @@ impl Call {
             ]);
         }
         match self {
+            Call::CheckProblem { .. } => {}
             Call::CheckGraph { graph } => {
                 arguments.push(("graph", Listed(graph).to_string()));
             }

@@ -1,7 +1,7 @@
 //! The proved search of Golfcedar, through its C interface, against a second implementation.
 //!
 //! `reference` is written from the product's scope document and the requests made after it (01 and
-//! 02 in comments here), its eleven calls from include/golfcedar.h. It shares neither code nor data
+//! 02 in comments here), its twelve calls from include/golfcedar.h. It shares neither code nor data
 //! layout with the proved search.
 
 pub mod answer;

@@ -6,6 +6,26 @@ use crate::answer::Answer;
 
 mod c {
     extern "C" {
+        pub fn golfcedar_version() -> u32;
+
+        pub fn golfcedar_reason(
+            number: u32,
+            text: *mut u8,
+            text_len: usize,
+            value: *mut u64,
+        ) -> u32;
+
+        pub fn golfcedar_check_problem(
+            old_graph: *const u8,
+            old_len: usize,
+            new_graph: *const u8,
+            new_len: usize,
+            substitutes: *const u8,
+            substitutes_len: usize,
+            value: *mut u64,
+            about: *mut u64,
+        ) -> u32;
+
         pub fn golfcedar_check_graph(graph: *const u8, graph_len: usize, value: *mut u64) -> u32;
 
         pub fn golfcedar_check_mapping(
@@ -148,6 +168,8 @@ pub const EDITION_1_BYTES: usize = 8449;
 pub const CHECKPOINT_BYTES: usize = 270;
 pub const WORKSPACE_WORDS: usize = 4160;
 pub const SUBSTITUTES_BYTES: usize = 1024;
+/// No refusal's text has more bytes.
+pub const REASON_BYTES: usize = 80;
 /// By this list only equal labels agree.
 pub const NO_SUBSTITUTES: &[u8] = &[];
 /// As `connected`: the first search, for any common subgraph.
@@ -161,6 +183,43 @@ pub const UNMAPPED: u8 = 255;
 
 /// What a number result holds before a call: a result that is not stored shows.
 const NOT_STORED: u64 = 0xA5A5_A5A5_A5A5_A5A5;
+
+pub fn version() -> u32 {
+    unsafe { c::golfcedar_version() }
+}
+
+pub fn reason(number: u32, text: &mut [u8]) -> Answer {
+    let mut value = NOT_STORED;
+    let number =
+        unsafe { c::golfcedar_reason(number, text.as_mut_ptr(), text.len(), &raw mut value) };
+    Answer {
+        number,
+        value,
+        ..Answer::default()
+    }
+}
+
+pub fn check_problem(old: &[u8], new: &[u8], substitutes: &[u8]) -> Answer {
+    let [mut value, mut about] = [NOT_STORED; 2];
+    let number = unsafe {
+        c::golfcedar_check_problem(
+            old.as_ptr(),
+            old.len(),
+            new.as_ptr(),
+            new.len(),
+            substitutes.as_ptr(),
+            substitutes.len(),
+            &raw mut value,
+            &raw mut about,
+        )
+    };
+    Answer {
+        number,
+        value,
+        about,
+        ..Answer::default()
+    }
+}
 
 pub fn check_graph(graph: &[u8]) -> Answer {
     let mut value = NOT_STORED;

@@ -13,8 +13,8 @@ mod search;
 mod step_limit;
 mod substitutes;
 
-pub use calls::{check_graph, check_mapping, clique, descend_resume, descend_start};
-pub use calls::{read_out, resume, start, step_limit, to_edition_1, to_edition_2};
+pub use calls::{check_graph, check_mapping, check_problem, clique, descend_resume};
+pub use calls::{descend_start, read_out, resume, start, step_limit, to_edition_1, to_edition_2};
 pub use calls::{CHECKPOINT_BYTES, WORKSPACE_WORDS};
 pub use checkpoint::Checkpoint;
 pub use clique::clique_branch;

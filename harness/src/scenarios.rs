@@ -2,6 +2,7 @@
 //! made by the library and by the second implementation.
 
 use std::collections::BTreeMap;
+use std::mem;
 use std::ops::{Range, RangeInclusive};
 
 use crate::answer::Answer;
@@ -29,8 +30,9 @@ pub struct Kind {
     scenario: Scenario,
 }
 
-pub const KINDS: [Kind; 24] = [
-    kind("graph", 102, graph),
+pub const KINDS: [Kind; 25] = [
+    kind("inputs", 40, inputs),
+    kind("graph", 62, graph),
     kind("mover", 51, mover),
     kind("moved", 9, moved),
     kind("mapping", 128, mapping),
@@ -85,6 +87,8 @@ pub struct Judge {
     pub comparisons: u64,
     /// How often each number was answered.
     pub answers: BTreeMap<u32, u64>,
+    /// How often `golfcedar_check_problem` answered so: by what it is about, and by the number.
+    pub inputs: BTreeMap<(u32, u32), u64>,
     /// How often a list was at fault, or clique branching had too many old vertices, or a label did
     /// not fit the edition: by the number, and by what the call answers without that fault, 0 where
     /// nothing else is wrong.
@@ -121,6 +125,10 @@ impl Judge {
             *self.faults.entry((fault, beside)).or_default() += 1;
         }
         let number = expected.answer.number;
+        if let Call::CheckProblem { .. } = call {
+            let about = expected.answer.about as u32;
+            *self.inputs.entry((about, number)).or_default() += 1;
+        }
         if let Some(without) = refused_for_own_edges(&call, &expected) {
             *self.own_edges.entry((number, without)).or_default() += 1;
         }
@@ -140,11 +148,27 @@ impl Judge {
         if outcome != expected {
             return Err(format!("this call disagrees: {call}{}", both()));
         }
+        if let Some(first) = other_refusal(&call, &outcome) {
+            return Err(format!("{call}{}but of its inputs: {first:?}", both()));
+        }
         if self.aloud {
             println!("{}", both());
         }
         Ok(outcome)
     }
+}
+
+/// What `golfcedar_check_problem` answers of the call's two graphs and list, if the call itself is
+/// not refused with the same number and value, or is refused for one of them where that accepts.
+fn other_refusal(call: &Call, outcome: &Outcome) -> Option<Answer> {
+    let given = call.given()?.clone();
+    let first = Call::CheckProblem { given }.made_by(&LIBRARY).answer;
+    let Answer { number, value, .. } = outcome.answer;
+    let is_same = match first.is_accepted() {
+        true => !matches!(number, 1..=9 | 23 | 24 | 27),
+        false => (number, value) == (first.number, first.value),
+    };
+    (!is_same).then_some(first)
 }
 
 /// What is wrong with the list and with the number of old vertices, whether or not the call comes
@@ -229,6 +253,72 @@ fn any_search(random: &mut Random) -> u32 {
 fn any_connected(random: &mut Random) -> u32 {
     let bit = 1 << random.within(0..32);
     random.pick(&[1, 1, 1, 2, 255, 256, 0xFFFF_0000, u32::MAX, bit])
+}
+
+/// Two graphs and a list, each sound or not, or in another's place; and then another call on them.
+fn inputs(judge: &mut Judge, random: &mut Random) -> Verdict<()> {
+    let problem = cases::problem(random, 0..6);
+    let mut given = given(random, &problem);
+    if random.percent(40) {
+        spoil_graph(random, &mut given.old);
+    }
+    if random.percent(60) {
+        spoil_graph(random, &mut given.new);
+    }
+    if random.percent(40) {
+        cases::spoil_substitutes(random, &mut given.substitutes);
+    }
+    match random.within(0..15) {
+        0 => mem::swap(&mut given.old, &mut given.new),
+        1 => mem::swap(&mut given.old, &mut given.substitutes),
+        2 => mem::swap(&mut given.new, &mut given.substitutes),
+        _ => {}
+    }
+    judge.compare(Call::CheckProblem {
+        given: given.clone(),
+    })?;
+    let minimum = random.within(0..4) as u8;
+    let connected = any_search(random);
+    let mut caller = Caller {
+        given,
+        connected,
+        floor: None,
+        checkpoint: Checkpoint::fresh(minimum).save(),
+    };
+    let given = caller.given.clone();
+    let checkpoint = output(random, CHECKPOINT_BYTES, 20);
+    let call = match random.within(0..6) {
+        0 => return caller.check_mapping(judge, cases::any_mapping(random, &problem)),
+        1 => return caller.read_out(judge, random),
+        2 => Call::Start {
+            given,
+            connected,
+            minimum,
+            checkpoint,
+        },
+        3 => Call::DescendStart {
+            given,
+            connected,
+            floor: minimum,
+            checkpoint,
+        },
+        4 => Call::Resume(caller.resume_call(random, 10)),
+        _ => {
+            caller.floor = Some(any_floor(random, minimum));
+            Call::Resume(caller.resume_call(random, 10))
+        }
+    };
+    judge.compare(call).map(drop)
+}
+
+/// A 0 anywhere in a graph's bytes, for the labels, or any bytes in their place.
+fn spoil_graph(random: &mut Random, bytes: &mut Vec<u8>) {
+    if random.percent(20) {
+        let place = random.within(0..bytes.len());
+        bytes[place] = 0;
+    } else {
+        *bytes = cases::any_graph_bytes(random);
+    }
 }
 
 fn graph(judge: &mut Judge, random: &mut Random) -> Verdict<()> {

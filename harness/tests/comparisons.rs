@@ -26,7 +26,7 @@ fn each_kind_agrees() {
 
 /// Each function on two graphs of 64 vertices and all edges, and on a full list, for this search if it
 /// takes one; clique branching on as many old vertices as it takes.
-fn heavy_calls(connected: u32) -> [Call; 11] {
+fn heavy_calls(connected: u32) -> [Call; 12] {
     let style = Style {
         vertex_labels: vec![7],
         edge_labels: vec![1, 2],
@@ -52,6 +52,9 @@ fn heavy_calls(connected: u32) -> [Call; 11] {
     [
         Call::CheckGraph {
             graph: given.old.clone(),
+        },
+        Call::CheckProblem {
+            given: given.clone(),
         },
         Call::CheckMapping {
             given: given.clone(),

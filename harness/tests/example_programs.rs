@@ -23,6 +23,12 @@ const HELD: &str = "state unfinished\nsteps 4\nsize 2\nceiling 3\n\
 const FINISHED: &str = "state finished\nsteps 6\nsize 2\nceiling 3\n\
     0 maps to 1\n1 maps to 0\n2 is left out\n";
 
+/// As the library tells the numbers 1, 2 and 14.
+const CUT_OFF: &str = "a command is cut off, or the end is missing";
+const UNKNOWN: &str = "an unknown command";
+const NOT_IN_SHAPE: &str = "checkpoint saved: refused 14 (0): \
+    a checkpoint that is not in shape for these graphs, substitutes and search";
+
 static C_PROGRAM: LazyLock<PathBuf> = LazyLock::new(|| built("resume", "-std=c11"));
 static MOVE: LazyLock<PathBuf> = LazyLock::new(|| built("move", "-std=c99"));
 
@@ -473,10 +479,7 @@ fn the_file_of_the_connected_search_has_five_parts() {
         folder.write("saved", &parts(&[&LOOSE, &LOOSE, &[], &held]));
         assert_eq!(folder.printed(program, &["0"]), LOOSE_FINISHED);
         folder.write("saved", &parts(&[&LOOSE, &LOOSE, &[], &[1], &held]));
-        assert_eq!(
-            folder.connected_refused(program, &[], &["0"]),
-            "checkpoint saved: refused 14 (0)"
-        );
+        assert_eq!(folder.connected_refused(program, &[], &["0"]), NOT_IN_SHAPE);
     });
 }
 
@@ -656,10 +659,7 @@ fn the_file_of_a_descent_has_its_floor() {
         checkpoint[14] = 0;
         folder.write("saved", &parts(&[&OLD, &NEW, &[], &[2, 1], &checkpoint]));
         for words in [&["0"][..], &["0", "1"]] {
-            assert_eq!(
-                folder.descend_refused(program, words),
-                "checkpoint saved: refused 14 (0)"
-            );
+            assert_eq!(folder.descend_refused(program, words), NOT_IN_SHAPE);
         }
     });
 }
@@ -775,7 +775,7 @@ fn the_longest_file_is_saved_and_loaded() {
         folder.write("new", &[&graph[..], &[0]].concat());
         assert_eq!(
             folder.refused(program, &["1"]),
-            "new graph new: refused 9 (8515)"
+            "new graph new: refused 9 (8515): bytes after the end"
         );
     });
 }
@@ -828,7 +828,7 @@ fn steps_and_budget_must_not_sum_up_too_high() {
         folder.printed(program, &["1"]);
         assert_eq!(
             folder.refused(program, &["18446744073709551615"]),
-            "checkpoint saved: refused 16 (0)"
+            "checkpoint saved: refused 16 (0): steps and budget together above 2^64 - 1"
         );
         assert_eq!(folder.printed(program, &["18446744073709551614"]), FINISHED);
     });
@@ -881,18 +881,19 @@ fn a_refused_graph_is_named() {
         folder.write("new", &[]);
         assert_eq!(
             folder.refused(program, &["3"]),
-            "new graph new: refused 1 (0)"
+            format!("new graph new: refused 1 (0): {CUT_OFF}")
         );
+        // of two it is the old one that is named
         folder.write("old", &[4, 2, 3, 7, 0, 2, 0, 1, 1, 0]);
         assert_eq!(
             folder.refused(program, &["3"]),
-            "old graph old: refused 5 (5)"
+            "old graph old: refused 5 (5): an edge of a vertex that is not given before it"
         );
         // it is not moved silently
         folder.write("old", &OLD_BEFORE);
         assert_eq!(
             folder.refused(program, &["3"]),
-            "old graph old: refused 27 (0)"
+            "old graph old: refused 27 (0): a graph that does not begin with 4, 2"
         );
         fs::remove_file(folder.0.join("old")).unwrap();
         assert_eq!(
@@ -931,6 +932,89 @@ fn a_file_of_other_graphs_is_refused() {
     });
 }
 
+/// Two panels and the substitutes.
+type Inputs<'a> = (&'a [u8], &'a [u8], &'a [&'a str]);
+
+impl Folder {
+    fn put(&self, (old, new, _): Inputs) {
+        self.write("old", old);
+        self.write("new", new);
+    }
+
+    /// A run that goes on to the end holds so many vertices.
+    fn finds(&self, program: &Path, options: &[&str], inputs: Inputs, size: usize) {
+        self.put(inputs);
+        let printed = self.printed_by(program, options, inputs.2, &["1000"]);
+        assert!(printed.starts_with("state finished\n"), "{printed}");
+        let found = format!("\nsize {size}\nceiling {}\n", size + 1);
+        assert!(printed.contains(&found), "{printed}");
+    }
+}
+
+/// What stands before the checkpoint, which is the last part of a file, and the checkpoint.
+fn split(saved: &[u8]) -> (&[u8], &[u8]) {
+    let mut place = 0;
+    loop {
+        let length = usize::from(saved[place]) + 256 * usize::from(saved[place + 1]);
+        if place + 2 + length == saved.len() {
+            return saved.split_at(place);
+        }
+        place += 2 + length;
+    }
+}
+
+/// A search is finished with something wrong in a panel or in the list, and then that is corrected:
+/// the file is refused, though its checkpoint is in shape for what is right too, and so would be
+/// answered.
+#[test]
+fn a_finished_file_is_refused_after_a_correction() {
+    both("corrected", |folder, program| {
+        // the same, but for the wire of 1 and 2; without it; and with another vertex 2
+        let mut miswired = OLD;
+        miswired[18] = 2;
+        let unwired = [&OLD[..15], &[0]].concat();
+        let mut renewed = OLD;
+        renewed[9] = 8;
+        let right: Inputs = (&OLD, &OLD, &[]);
+        let listed: Inputs = (&OLD, &renewed, &["7:8"]);
+        let cases: [(&str, Inputs, Inputs); 6] = [
+            ("another old graph", (&miswired, &OLD, &[]), right),
+            ("another old graph", (&unwired, &OLD, &[]), right),
+            ("another new graph", (&OLD, &miswired, &[]), right),
+            ("another new graph", (&OLD, &unwired, &[]), right),
+            ("other substitutes", (&OLD, &renewed, &[]), listed),
+            ("other substitutes", (&OLD, &renewed, &["8:7"]), listed),
+        ];
+        let searches: [&[&str]; 4] = [
+            &[],
+            &["--descend"],
+            &["--connected"],
+            &["--connected", "--descend"],
+        ];
+        for (what, wrong, right) in cases {
+            for options in searches {
+                folder.finds(program, options, wrong, 2);
+                let first = folder.saved().unwrap();
+                folder.put(right);
+                for budget in ["0", "1000"] {
+                    assert_eq!(
+                        folder.refused_by(program, options, right.2, &[budget]),
+                        format!("checkpoint saved: saved for {what}: name another file")
+                    );
+                }
+                folder.finds(program, options, wrong, 2);
+                fs::remove_file(folder.0.join("saved")).unwrap();
+                folder.finds(program, options, right, 3);
+                // the first checkpoint, as if it were of the right panels
+                let second = folder.saved().unwrap();
+                folder.write("saved", &[split(&second).0, split(&first).1].concat());
+                folder.finds(program, options, right, 2);
+                fs::remove_file(folder.0.join("saved")).unwrap();
+            }
+        }
+    });
+}
+
 #[test]
 fn a_damaged_file_is_refused() {
     both("damaged", |folder, program| {
@@ -964,9 +1048,11 @@ fn a_damaged_checkpoint_is_refused() {
         let mut out_of_shape = CHECKPOINT;
         // old vertex 0 does not fit on new vertex 0
         out_of_shape[14] = 0;
+        let not_in_form =
+            "checkpoint saved: refused 17 (3): bytes that are not in the form of a checkpoint";
         for (checkpoint, message) in [
-            (&CHECKPOINT[..3], "checkpoint saved: refused 17 (3)"),
-            (&out_of_shape[..], "checkpoint saved: refused 14 (0)"),
+            (&CHECKPOINT[..3], not_in_form),
+            (&out_of_shape[..], NOT_IN_SHAPE),
         ] {
             folder.write("saved", &saved_file(&[], checkpoint));
             assert_eq!(folder.refused(program, &["3"]), message);
@@ -1089,37 +1175,35 @@ fn a_file_moves_to_edition_2_and_back() {
 #[test]
 fn a_refused_file_is_not_moved() {
     let folder = Folder::new("move-refused");
-    let cut_off = "cut off: a command is not whole, or the end is missing";
-    let moved = "not a command of edition 1 (if it begins with 4 2, it is moved already)";
-    let many = "a 65th vertex, and a graph has at most 64";
+    let many = "a 65th vertex: a graph has at most 64";
     let not_given = "an edge of a vertex that is not given before it";
     let given = "an edge that is given already";
-    let wide = "a vertex with a label above 255, which edition 1 does not have";
-    let not_edition_2 = "not a file of edition 2, which begins with 4 2";
+    let wide = "a label above 255, which edition 1 does not have";
+    let not_edition_2 = "a graph that does not begin with 4, 2";
     let many_before = [1, 7].repeat(65);
     let many_now = [&[4, 2], &[3, 7, 0].repeat(65)[..]].concat();
     let up: [(&[u8], u32, u64, &str); 13] = [
-        (&[], 1, 0, cut_off),
-        (&[1, 7, 1], 1, 2, cut_off),
-        (&OLD_BEFORE[..14], 1, 14, cut_off),
-        (&OLD, 2, 0, moved),
-        (&[1, 7, 3, 7, 0, 0], 2, 2, moved),
+        (&[], 1, 0, CUT_OFF),
+        (&[1, 7, 1], 1, 2, CUT_OFF),
+        (&OLD_BEFORE[..14], 1, 14, CUT_OFF),
+        (&OLD, 2, 0, UNKNOWN),
+        (&[1, 7, 3, 7, 0, 0], 2, 2, UNKNOWN),
         (&[1, 0, 0], 3, 0, "a vertex with label 0"),
         (&many_before, 4, 128, many),
         (&[1, 7, 2, 0, 1, 1, 0], 5, 2, not_given),
         (&[1, 7, 2, 1, 0, 1, 0], 5, 2, not_given),
         (&[1, 7, 2, 0, 0, 0, 0], 7, 2, "an edge with label 0"),
         (&[1, 7, 2, 0, 0, 1, 2, 0, 0, 1, 0], 8, 6, given),
-        (&[1, 7, 0, 0], 9, 3, "more bytes after the end"),
-        (&[0, 13, 10], 9, 1, "more bytes after the end"),
+        (&[1, 7, 0, 0], 9, 3, "bytes after the end"),
+        (&[0, 13, 10], 9, 1, "bytes after the end"),
     ];
     let back: [(&[u8], u32, u64, &str); 14] = [
         (&OLD_BEFORE, 27, 0, not_edition_2),
         (&[4, 1, 0], 27, 0, not_edition_2),
-        (&[], 1, 0, cut_off),
-        (&[4], 1, 0, cut_off),
-        (&[4, 2], 1, 2, cut_off),
-        (&[4, 2, 1, 7, 0], 2, 2, "not a command of edition 2"),
+        (&[], 1, 0, CUT_OFF),
+        (&[4], 1, 0, CUT_OFF),
+        (&[4, 2], 1, 2, CUT_OFF),
+        (&[4, 2, 1, 7, 0], 2, 2, UNKNOWN),
         (&[4, 2, 3, 0, 0, 0], 3, 2, "a vertex with label 0"),
         (&many_now, 4, 194, many),
         (&[4, 2, 3, 0, 1, 9], 28, 2, wide),
@@ -1127,15 +1211,15 @@ fn a_refused_file_is_not_moved() {
         (&[4, 2, 2, 0, 0, 1, 0], 5, 2, not_given),
         (&[4, 2, 3, 7, 0, 2, 0, 0, 0], 7, 5, "an edge with label 0"),
         (&[4, 2, 3, 7, 0, 2, 0, 0, 1, 2, 0, 0, 2], 8, 9, given),
-        (&[4, 2, 0, 0], 9, 3, "more bytes after the end"),
+        (&[4, 2, 0, 0], 9, 3, "bytes after the end"),
     ];
     let up = up.map(|case| (&["from", "to"][..], case));
     let back = back.map(|case| (&["--back", "from", "to"][..], case));
-    for (arguments, (bytes, number, place, meaning)) in up.into_iter().chain(back) {
+    for (arguments, (bytes, number, place, text)) in up.into_iter().chain(back) {
         folder.write("from", bytes);
         assert_eq!(
             folder.not_moved(arguments, 1),
-            format!("move: from: refused {number} at byte {place}: {meaning}"),
+            format!("move: from: refused {number} at byte {place}: {text}"),
             "{bytes:?}"
         );
         assert_eq!(folder.to(), None);

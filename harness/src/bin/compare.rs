@@ -112,6 +112,10 @@ fn summarise(judges: &[Judge]) {
     println!("all      {total:7} comparisons");
     let answers = sums(judges.iter().map(|judge| &judge.answers));
     println!("answers  {}", listed(answers));
+    let inputs = inputs(judges);
+    for (about, _) in INPUTS {
+        println!("about {about}  {}", listed(second_of(about, &inputs)));
+    }
     let faults = faults(judges);
     for (fault, _) in FAULTS {
         println!("{fault} with  {}", listed(second_of(fault, &faults)));
@@ -138,6 +142,11 @@ fn second_of(first: u32, counts: &Counts) -> impl Iterator<Item = (u32, u64)> + 
         .filter(move |((number, _), _)| *number == first);
     of_it.map(|(&(_, second), &times)| (second, times))
 }
+
+/// What the test of the inputs is about: nothing (0), the old graph, the new one, the list. Each with
+/// the numbers that have to come.
+const INPUTS: Wanted<4> = [(0, &[0]), (1, OF_GRAPH), (2, OF_GRAPH), (3, &[23, 24])];
+const OF_GRAPH: &[u32] = &[1, 2, 3, 4, 5, 7, 8, 9, 27];
 
 /// The faults of a list, too many old vertices for clique branching, and labels that do not fit
 /// edition 1. Each with what else may be wrong with such a call: nothing (0), something of a graph,
@@ -175,12 +184,14 @@ const OWN_EDGES: Wanted<2> = [(14, &[0, 16]), (22, &[0, 19, 20, 21, 22])];
 /// in the first search: nothing (0), or one of the faults that come after it.
 const ISLANDS: Wanted<1> = [(14, &[0, 13, 15, 16])];
 
-/// What never came: each of the faults with each other one, a refusal of graph bytes, a search that
-/// goes on under another list, with other own edges or as the other search, taken and refused, a
-/// refusal of a descent's call, and one that began anew so many times.
+/// What never came: a refusal of each input, each of the faults with each other one, a refusal of
+/// graph bytes, a search that goes on under another list, with other own edges or as the other
+/// search, taken and refused, a refusal of a descent's call, and one that began anew so many times.
 fn missing(judges: &[Judge]) -> Vec<String> {
+    let never = never_came(INPUTS, inputs(judges));
+    let mut missing: Vec<String> = never.map(|(a, n)| format!("{n} about {a}")).collect();
     let never = never_came(FAULTS, faults(judges));
-    let mut missing: Vec<String> = never.map(|(f, b)| format!("{f} with {b}")).collect();
+    missing.extend(never.map(|(fault, beside)| format!("{fault} with {beside}")));
     let never = never_came(OWN_EDGES, own_edges(judges));
     missing.extend(never.map(|(number, other)| format!("{number}, without own edges {other}")));
     let never = never_came(ISLANDS, islands(judges));
@@ -209,6 +220,10 @@ fn never_came<const N: usize>(
         .into_iter()
         .flat_map(|(first, second)| second.iter().map(move |&second| (first, second)));
     pairs.filter(move |pair| !counts.contains_key(pair))
+}
+
+fn inputs(judges: &[Judge]) -> Counts {
+    sums(judges.iter().map(|judge| &judge.inputs))
 }
 
 fn faults(judges: &[Judge]) -> Counts {

@@ -1,13 +1,33 @@
-//! The eleven functions of include/golfcedar.h: their answers, and what they leave in lent memory.
+//! The functions of include/golfcedar.h, but for the version and the refusals' texts: their answers,
+//! and what they leave in lent memory.
 
 use super::{advance, capped_limit, ceiling, check, clique_branch};
 use super::{descend, descent_ceiling, start_minimum};
 use super::{entries_from_bytes, entries_to_bytes, size};
-use super::{Checkpoint, Edition, Graph, Problem, Reason, Refusal, Sought};
+use super::{Checkpoint, Edition, Graph, Problem, Reason, Refusal, Sought, Substitutes};
 use crate::answer::Answer;
 
 pub const CHECKPOINT_BYTES: usize = 270;
 pub const WORKSPACE_WORDS: usize = 4160;
+
+/// Each of the three is judged by itself, and the first at fault is told.
+pub fn check_problem(old: &[u8], new: &[u8], substitutes: &[u8]) -> Answer {
+    let faults = [
+        (1, Graph::parse(old).err()),
+        (2, Graph::parse(new).err()),
+        (3, Substitutes::parse(substitutes).err()),
+    ];
+    let first = faults
+        .into_iter()
+        .find_map(|(about, fault)| Some((about, fault?)));
+    match first {
+        None => Answer::accepted(0),
+        Some((about, fault)) => Answer {
+            about,
+            ..answer(Err(fault))
+        },
+    }
+}
 
 pub fn check_graph(graph: &[u8]) -> Answer {
     answer(Graph::parse(graph).map(|graph| Answer::accepted(graph.order() as u64)))
