@@ -5,7 +5,7 @@
 #     make uninstall PREFIX=/usr/local
 #     make check                       the tests of the module and the command
 #
-# Needed: rt, for what is proved; a C compiler, to link the shared library; python3.
+# Needed: rt, for what is proved; a C compiler, to link the shared library; python3, 3.9 or later.
 
 PREFIX ?= /usr/local
 BINDIR ?= $(PREFIX)/bin
@@ -27,6 +27,8 @@ SHARED = target/lib/$(SONAME)
 MODULE = $(wildcard python/golfcedar/*.py) python/golfcedar/py.typed
 
 .PHONY: library install uninstall check
+# A library that was half written must not count as made.
+.DELETE_ON_ERROR:
 
 library: $(SHARED)
 
@@ -41,7 +43,12 @@ $(SHARED): $(STATIC) include/golfcedar.h
 	$(CC) -shared -Wl,-soname,$(SONAME) -Wl,--version-script,target/lib/exports -Wl,-z,defs \
 	    -Wl,--whole-archive $(STATIC) -Wl,--no-whole-archive -o $@
 
+# Files that name other files need whole paths, and without python3 there would be none for the module.
+paths = @case '$(PREFIX)' in /*) ;; *) echo "make: PREFIX is to begin with /, not '$(PREFIX)'" >&2; exit 1 ;; esac; \
+    case '$(PYTHONDIR)' in /*) ;; *) echo "make: no folder for the module: is there a $(PYTHON)?" >&2; exit 1 ;; esac
+
 install: $(SHARED)
+	$(paths)
 	install -d '$(DESTDIR)$(BINDIR)' '$(DESTDIR)$(LIBDIR)/pkgconfig' '$(DESTDIR)$(INCLUDEDIR)' '$(DESTDIR)$(MANDIR)/man1' '$(DESTDIR)$(PYTHONDIR)/golfcedar'
 	install -m 644 include/golfcedar.h '$(DESTDIR)$(INCLUDEDIR)/golfcedar.h'
 	install -m 755 $(SHARED) '$(DESTDIR)$(LIBDIR)/libgolfcedar.so.$(VERSION)'
@@ -53,12 +60,14 @@ install: $(SHARED)
 	    'Cflags: -I$${includedir}' 'Libs: -L$${libdir} -lgolfcedar' > '$(DESTDIR)$(LIBDIR)/pkgconfig/golfcedar.pc'
 	install -m 644 $(MODULE) '$(DESTDIR)$(PYTHONDIR)/golfcedar'
 	printf '# Written by make install: where the library is.\nLIBRARY = "%s"\n' '$(LIBDIR)/$(SONAME)' > '$(DESTDIR)$(PYTHONDIR)/golfcedar/_installed.py'
-	printf '%s\n' '#!/usr/bin/env $(PYTHON)' 'import sys' '' 'sys.path.insert(0, "$(PYTHONDIR)")' '' \
+	printf '%s\n' '#!/usr/bin/env $(PYTHON)' 'import sys' '' 'sys.path.append("$(PYTHONDIR)")' '' \
 	    'from golfcedar.command import main' '' 'sys.exit(main())' > '$(DESTDIR)$(BINDIR)/golfcedar'
 	chmod 755 '$(DESTDIR)$(BINDIR)/golfcedar'
+	chmod 644 '$(DESTDIR)$(LIBDIR)/pkgconfig/golfcedar.pc' '$(DESTDIR)$(PYTHONDIR)/golfcedar/_installed.py'
 	install -m 644 man/golfcedar.1 '$(DESTDIR)$(MANDIR)/man1/golfcedar.1'
 
 uninstall:
+	$(paths)
 	rm -f '$(DESTDIR)$(BINDIR)/golfcedar' '$(DESTDIR)$(INCLUDEDIR)/golfcedar.h' '$(DESTDIR)$(LIBDIR)/pkgconfig/golfcedar.pc' \
 	    '$(DESTDIR)$(MANDIR)/man1/golfcedar.1' '$(DESTDIR)$(LIBDIR)/libgolfcedar.a' '$(DESTDIR)$(LIBDIR)/libgolfcedar.so' \
 	    '$(DESTDIR)$(LIBDIR)/$(SONAME)' '$(DESTDIR)$(LIBDIR)/libgolfcedar.so.$(VERSION)'

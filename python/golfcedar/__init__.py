@@ -30,7 +30,7 @@ from .errors import (
 )
 from .graph import Graph, Problem
 from .result import Edge, Obstacle, Result
-from .search import Progress, Search, search
+from ._search import Progress, Search, search
 
 __all__ = [
     "DamagedFile",

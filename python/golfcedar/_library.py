@@ -22,7 +22,9 @@ SUBSTITUTES_BYTES = 1024
 REASON_BYTES = 80
 STEP_LIMIT_CAP = 2**64 - 1
 
-SONAME = "libgolfcedar.so.1"
+# A library of another major version has other calls under the same names.
+MAJOR = 1
+SONAME = f"libgolfcedar.so.{MAJOR}"
 
 # Bytes that are only read. ctypes lends the bytes object's own memory, which is never null and has
 # one byte more than its length; the length always goes along, so zero bytes end nothing.
@@ -272,6 +274,9 @@ def _shared_library() -> ctypes.CDLL:
             return _loaded(candidate)
         except (OSError, AttributeError) as error:
             tried.append(f"  {candidate}: {error}")
+        if os.path.lexists(candidate):
+            # Another library than the one that should be it would be worse than none.
+            break
     raise LibraryMissing(
         "the library of Golfcedar cannot be loaded: run `make library` in a clone of it,\n"
         "or name the library's file in the environment variable GOLFCEDAR_LIBRARY. Tried:\n"
@@ -282,7 +287,6 @@ def _shared_library() -> ctypes.CDLL:
 def _candidates() -> Iterator[str]:
     named = os.environ.get("GOLFCEDAR_LIBRARY")
     if named:
-        # Another library than the one that is named would be worse than none.
         yield os.path.abspath(named)
         return
     installed = _installed()
@@ -305,4 +309,7 @@ def _loaded(file: str) -> ctypes.CDLL:
         function = getattr(library, f"golfcedar_{name}")
         function.argtypes = arguments
         function.restype = ctypes.c_uint32
+    major = library.golfcedar_version() >> 16
+    if major != MAJOR:
+        raise OSError(f"this is version {major}, and version {MAJOR} is needed")
     return library

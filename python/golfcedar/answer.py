@@ -4,38 +4,49 @@ from __future__ import annotations
 
 import json
 import os
-from typing import Any, NamedTuple, Sequence
+from typing import Any, Iterable, NamedTuple, Sequence
 
 from .panel import Panel, amount, shown
 from .picture import Side, picture
 from .result import Edge, Obstacle, Result
-from .search import Search
+from ._search import Search
 
 MAX_REASONS = 4
 
 
-class Run(NamedTuple):
-    """One run of a search: its seconds, the steps of the runs before it, and the file, if any."""
+class Spent(NamedTuple):
+    """What a run took: its seconds, the steps of the runs before it, and the file, if any."""
 
     seconds: float
     steps_before: int
     file: str | None
 
 
+class Reason(NamedTuple):
+    """Why a part cannot stay as a new part (as any, if None): the library's number, and a text."""
+
+    new: str | None
+    number: int
+    text: str
+
+    def __str__(self) -> str:
+        return self.text if self.new is None else f"as {shown(self.new)}: {self.text}"
+
+
 class Answer:
     """What a search holds, in words: which parts and wires stay, and why others do not."""
 
-    def __init__(self, old: Panel, new: Panel, search: Search, run: Run) -> None:
+    def __init__(self, old: Panel, new: Panel, search: Search, spent: Spent) -> None:
         self.old = old
         self.new = new
         self.search = search
-        self.run = run
+        self.spent = spent
         self.result: Result = search.result()
 
     def text(self, drawn: str | None) -> str:
         """The answer as plain text."""
         lines: list[str] = []
-        if self.result.size is not None:
+        if self.tells_parts:
             lines += self._part_sections() + self._wire_sections()
         lines += self._verdict()
         if drawn is not None:
@@ -44,7 +55,7 @@ class Answer:
 
     def json(self, drawn: str | None) -> str:
         """The answer as one JSON object."""
-        held = self.result.size is not None
+        told = self.tells_parts
         answer = {
             "format": "golfcedar match 1",
             "state": "done" if self.result.final else "stopped",
@@ -52,17 +63,18 @@ class Answer:
             "size": self.result.size,
             "ceiling": self.result.ceiling,
             "steps": self.result.steps,
-            "seconds": round(self.run.seconds, 3),
+            "seconds": round(self.spent.seconds, 3),
             "minimum": self.search.minimum,
             "connected": self.search.connected,
             "descend": self.search.descend,
             "keep": [{"old": a, "new": b, "old_kind": self.old.kind(a),
                       "new_kind": self.new.kind(b)} for a, b in self.result.kept_vertices],
-            "remove": [{"old": name, "kind": self.old.kind(name), "why": self.why(name)}
-                       for name in self.result.removed_vertices] if held else [],
+            "remove": [{"old": name, "kind": self.old.kind(name),
+                        "why": [reason._asdict() for reason in self.why(name)]}
+                       for name in self.result.removed_vertices] if told else None,
             "fit": [{"new": name, "kind": self.new.kind(name)}
-                    for name in self.result.new_vertices] if held else [],
-            "wires": self._json_wires() if held else {"keep": [], "take_out": [], "run_anew": []},
+                    for name in self.result.new_vertices] if told else None,
+            "wires": self._json_wires() if told else None,
             "proved": self.proved(),
             "picture": drawn,
         }
@@ -85,15 +97,21 @@ class Answer:
             return f"no {self._lists} keeps {self.search.minimum} or more parts"
         return f"no {self._lists} keeps more" + ("" if self.search.connected else " parts")
 
-    def why(self, name: str) -> list[str]:
+    @property
+    def tells_parts(self) -> bool:
+        """Whether it is known what becomes of each part: by a list, or since no part may stay."""
+        none_stays = self.result.final and self.search.minimum <= 1
+        return self.result.size is not None or none_stays
+
+    def why(self, name: str) -> list[Reason]:
         """What is against each new part that a removed part could serve as."""
         obstacles = self.result.obstacles(name)
         if not obstacles:
             nor = ", nor of a substitute" if self.result.problem.substitutes else ""
-            return [f"no new part of its kind{nor}"]
+            return [Reason(None, 21, f"no new part of its kind{nor}")]
         # What is against a new part that is free tells more than that another one is taken.
         obstacles.sort(key=lambda obstacle: obstacle.number == 20)
-        return [f"as {shown(obstacle.new)}: {self._against(name, obstacle)}"
+        return [Reason(obstacle.new, obstacle.number, self._against(name, obstacle))
                 for obstacle in obstacles]
 
     @property
@@ -110,7 +128,7 @@ class Answer:
         indent = " " * (2 + max((len(shown(name)) for name in removed), default=0) + 3)
         for name, row in zip(removed, rows):
             lines.append(row)
-            lines += [indent + reason for reason in _shortened(self.why(name))]
+            lines += [indent + reason for reason in _shortened(map(str, self.why(name)))]
         if not removed:
             lines += rows
         fit = self.result.new_vertices
@@ -163,9 +181,9 @@ class Answer:
     def _verdict(self) -> list[str]:
         proved = self.proved()
         steps = amount(self.result.steps, "step")
-        if self.run.steps_before:
-            steps += f", {self.result.steps - self.run.steps_before:,} of them in this run"
-        time_line = f"{steps}, {self.run.seconds:.1f} s"
+        if self.spent.steps_before:
+            steps += f", {self.result.steps - self.spent.steps_before:,} of them in this run"
+        time_line = f"{steps}, {self.spent.seconds:.1f} s"
         if proved:
             return [f"proved: {proved}", time_line]
         return [self._open(), self._go_on(), time_line]
@@ -188,9 +206,12 @@ class Answer:
         return f"whether a {self._lists} keeps {between} is not known yet"
 
     def _go_on(self) -> str:
-        if self.run.file is not None:
-            return "go on: the same command"
-        return "go on: this run is not saved; with --resume FILE it would be"
+        sooner = ""
+        if self.result.size is None and self.search.descend:
+            sooner = "; to have a list before the end, start anew with --plain"
+        if self.spent.file is not None:
+            return f"go on: the same command{sooner}"
+        return f"go on: this run is not saved; with --resume FILE it would be{sooner}"
 
 
 def _side(panel: Panel) -> Side:
@@ -215,7 +236,8 @@ def _partner(old: Edge, new: Edge) -> str:
     return "" if old == new else f"(as {shown(new.a)} - {shown(new.b)})"
 
 
-def _shortened(reasons: list[str]) -> list[str]:
+def _shortened(all_reasons: Iterable[str]) -> list[str]:
+    reasons = list(all_reasons)
     more = len(reasons) - MAX_REASONS
     return reasons[:MAX_REASONS] + ([f"and {more} more"] if more > 0 else [])
 
@@ -223,17 +245,16 @@ def _shortened(reasons: list[str]) -> list[str]:
 def difference(old: Panel, new: Panel, old_ends: tuple[str, str],
                 new_ends: tuple[str, str]) -> str:
     """How the wire between two old parts differs from that between two new ones."""
-    here, there = old.wire(*old_ends), new.wire(*new_ends)
-    if old_ends[0] == old_ends[1]:
-        return (f"{shown(old_ends[0])} has {_a_wire(here)} with itself,"
-                f" {shown(new_ends[0])} {_a_wire(there)}")
-    between = [" and ".join(map(shown, ends)) for ends in (old_ends, new_ends)]
-    return (f"between {between[0]} runs {_a_wire(here)},"
-            f" between {between[1]} {'none' if there is None else _a_wire(there)}")
+    return (f"old: {_wire_between(old, *old_ends)};"
+            f" new: {_wire_between(new, *new_ends)}")
 
 
-def _a_wire(kind: str | None) -> str:
-    return "no wire" if kind is None else f"a wire {shown(kind)}"
+def _wire_between(panel: Panel, a: str, b: str) -> str:
+    kind = panel.wire(a, b)
+    wire = "no wire" if kind is None else f"a wire {shown(kind)}"
+    if a == b:
+        return f"{wire} of {shown(a)} with itself"
+    return f"{wire} between {shown(a)} and {shown(b)}"
 
 
 def most_kept(search: Search) -> int:

@@ -8,23 +8,23 @@ import signal
 import sys
 import threading
 import time
+import traceback
 from types import FrameType
 from typing import Any, Callable, NamedTuple, Sequence
 
-from . import _library
-from .answer import Answer, Run, difference, most_kept
+from . import _files, _library
+from .answer import Answer, Spent, difference, most_kept
 from .errors import DamagedFile, GolfcedarError, MappingRefused, OtherQuestion, Refused
 from .graph import Problem
-from .panel import (MAX_PARTS, Pairs, Panel, PanelError, amount, check_pair, read_list, read_panel,
-                    read_substitutes, refusal_at_byte, shown)
-from .search import Search
+from .panel import (MAX_PARTS, Pairs, Panel, PanelError, amount, check_pair, near_kinds, read_list,
+                    read_panel, read_substitutes, refusal_at_byte, shown)
+from ._search import Search
 
 DONE, STOPPED, REFUSED = 0, 1, 2
 
 SAVE_SECONDS = 30.0
 PROGRESS_SECONDS = 0.2
-SHARE_SECONDS = 0.05
-FIRST_SHARE = 1_000
+PICTURE_BEGINS = b'class="golfcedar"'
 
 _REFUSED = "  2  refused or not understood; the error text says what to mend"
 _STATUS = f"exit status:\n  0  done\n{_REFUSED}"
@@ -64,11 +64,20 @@ def main(argv: Sequence[str] | None = None) -> int:
     except KeyboardInterrupt:
         _tell("golfcedar: stopped")
         outcome = Outcome(STOPPED, "")
+    except Exception:
+        # A fault of this program must not have the status of a stopped search.
+        _tell(traceback.format_exc().rstrip())
+        outcome = Outcome(REFUSED, "")
     return _finish(outcome)
 
 
 def _finish(outcome: Outcome) -> int:
-    """Writes the text; an answer that got lost on its way has not the status of one."""
+    """Writes the text; an answer that got lost on its way has not the status of one.
+
+    Where the reader went away before the end, as in a pipe to head, it had what it wanted.
+    """
+    if sys.stdout is None:
+        return REFUSED if outcome.text else outcome.status
     encoding = getattr(sys.stdout, "encoding", None) or "utf-8"
     text = outcome.text.encode(encoding, "backslashreplace").decode(encoding)
     try:
@@ -88,7 +97,8 @@ def _drop_output() -> None:
 
 
 def _tell(*lines: object) -> None:
-    for line in lines:
+    # With no standard error, print would take standard output.
+    for line in lines if sys.stderr is not None else ():
         print(line, file=sys.stderr)
 
 
@@ -245,12 +255,30 @@ def _read_both(old_file: str, new_file: str) -> tuple[Panel, Panel]:
     return old, new
 
 
-def _read_substitutes(file: str | None, old: Panel, new: Panel) -> tuple[tuple[str, str], ...]:
+def _read_substitutes(file: str | None, old: Panel, new: Panel) -> Pairs:
     if file is None:
-        return ()
+        return Pairs("", b"", {}, ())
     pairs = read_substitutes(file, old, new)
     _tell(*pairs.notes)
-    return pairs.pairs
+    return pairs
+
+
+def _check_unchanged(*inputs: Panel | Pairs) -> None:
+    """Raises PanelError if a file changed since it was read: the answer is to another question."""
+    for read in inputs:
+        # What came through a pipe cannot be read again.
+        piped = os.path.exists(read.file) and not os.path.isfile(read.file)
+        if read.file and not piped and _content(read.file) != read.data:
+            raise PanelError(read.file, None, "changed while the search ran, so its answer would be"
+                             " to another question: run it again")
+
+
+def _content(file: str) -> bytes | None:
+    try:
+        with open(file, "rb") as stream:
+            return stream.read()
+    except OSError:
+        return None
 
 
 def _file_error(file: str, error: OSError) -> PanelError:
@@ -263,11 +291,13 @@ def _file_error(file: str, error: OSError) -> PanelError:
 def _match(arguments: argparse.Namespace) -> Outcome:
     old, new = _read_both(arguments.old, arguments.new)
     substitutes = _read_substitutes(arguments.substitutes, old, new)
+    _tell(*near_kinds(old, new, substitutes.pairs))
     _check_places(arguments)
-    search = _begin(arguments, old, new, substitutes)
+    search = _begin(arguments, old, new, substitutes.pairs)
     run = _Run(search, arguments)
     run.go()
-    answer = Answer(old, new, search, Run(run.seconds, run.steps_before, run.file))
+    _check_unchanged(old, new, substitutes)
+    answer = Answer(old, new, search, Spent(run.seconds, run.steps_before, run.file))
     status = DONE if search.final else STOPPED
     drawn = None
     if arguments.svg is not None:
@@ -303,17 +333,17 @@ def _begin(arguments: argparse.Namespace, old: Panel, new: Panel,
 
 def _other_question(file: str, saved: dict[str, Any]) -> PanelError:
     """A file that was saved for another question, with what to do."""
-    words = {"old": "for another old panel", "new": "for another new panel",
-             "substitutes": "for other substitutes"}
+    words = []
+    if saved.keys() & {"old", "new", "substitutes"}:
+        words.append("for other panels or substitutes")
     if "minimum" in saved:
-        words["minimum"] = f"with --minimum {saved['minimum']}"
+        words.append(f"with --minimum {saved['minimum']}")
     if "connected" in saved:
-        words["connected"] = "with --connected" if saved["connected"] else "without --connected"
+        words.append("with --connected" if saved["connected"] else "without --connected")
     if "descend" in saved:
-        words["descend"] = "with --descend" if saved["descend"] else "with --plain"
-    how = " and ".join(words[key] for key in saved)
-    return PanelError(file, None, f"saved {how}, so its answer is to another question: name another"
-                      " file, or remove this one to start anew")
+        words.append("with --descend" if saved["descend"] else "with --plain")
+    return PanelError(file, None, f"saved {' and '.join(words)}, so its answer is to another"
+                      " question: name another file, or remove this one to start anew")
 
 
 class _Signals:
@@ -326,7 +356,7 @@ class _Signals:
     def __enter__(self) -> _Signals:
         # Only the main thread may set handlers; and what a caller ignores stays ignored.
         if threading.current_thread() is threading.main_thread():
-            for number in (signal.SIGINT, signal.SIGTERM):
+            for number in (signal.SIGINT, signal.SIGTERM, signal.SIGHUP):
                 if signal.getsignal(number) not in (signal.SIG_IGN, None):
                     self._before[number] = signal.signal(number, self._ask)
         return self
@@ -376,6 +406,7 @@ class _Run:
         self.search = search
         self.file: str | None = arguments.resume
         self.steps_before = search.steps
+        self._saved: bytes | None = _content(arguments.resume) if arguments.resume else None
         self._limit: int | None = arguments.steps
         self._most_seconds: float | None = arguments.seconds
         self._line = _ProgressLine(not (arguments.quiet or arguments.json),
@@ -410,15 +441,9 @@ class _Run:
                 self._save(self.file)
 
     def _advance(self, signals: _Signals) -> None:
-        share = FIRST_SHARE
         due = time.monotonic() + SAVE_SECONDS
         while not (self.search.final or signals.asked or self._is_over()):
-            began, before = time.monotonic(), self.search.steps
-            self.search.advance(share if self._limit is None
-                                else min(share, self._limit - self.steps))
-            took = max(time.monotonic() - began, 1e-6)
-            made = self.search.steps - before
-            share = max(FIRST_SHARE, min(4 * share, int(made / took * SHARE_SECONDS)))
+            self.search.work(None if self._limit is None else self._limit - self.steps)
             self._line.show(self.search, self.seconds)
             if self.file is not None and time.monotonic() >= due:
                 self._save(self.file)
@@ -435,10 +460,18 @@ class _Run:
             self.search.save(file)
         except OSError as error:
             raise _file_error(file, error) from None
+        self._saved = _content(file)
 
     def _save(self, file: str) -> None:
+        if _content(file) != self._saved:
+            # What another run saved here meanwhile may be hours of work.
+            self.file = None
+            self._line.clear()
+            _tell(f"{file}: changed by another run while this one searched: this one is not saved")
+            return
         try:
             self.search.save(file)
+            self._saved = _content(file)
         except OSError as error:
             self._line.clear()
             _tell(f"{file}: not saved, it has an earlier state: {error.strerror}")
@@ -458,33 +491,30 @@ def _check_places(arguments: argparse.Namespace) -> None:
 
 
 def _check_picture_place(file: str) -> None:
-    if os.path.lexists(file) and not os.path.isfile(file):
-        raise PanelError(file, None, "no file that a picture can be written to")
+    if os.path.lexists(file) and not _is_picture(file):
+        raise PanelError(file, None, "is there already and no picture of a list: name another file")
     folder = os.path.dirname(file) or "."
     if not (os.path.isdir(folder) and os.access(folder, os.W_OK)):
         raise PanelError(file, None, f"no file can be written to the folder {folder}")
 
 
-def _draw(file: str, answer: Answer) -> str | None:
-    """Writes the picture; the file's name, or None if there is no list to draw."""
-    if answer.result.size is None:
-        _tell(f"{file}: note: no picture, since there is no list to draw")
-        return None
-    _write_picture(file, answer.picture())
-    return file
-
-
-def _write_picture(file: str, text: str) -> None:
-    # Through a second file: a picture that is cut off would look like one of another list.
-    second = f"{file}.{os.getpid()}.tmp"
+def _is_picture(file: str) -> bool:
     try:
-        with open(second, "x", encoding="utf-8") as stream:
-            stream.write(text)
-        os.replace(second, file)
+        with open(file, "rb") as stream:
+            return PICTURE_BEGINS in stream.read(200)
     except OSError:
-        if os.path.exists(second):
-            os.unlink(second)
-        raise
+        return False
+
+
+def _draw(file: str, answer: Answer) -> str | None:
+    """Draws the list; without one no earlier picture is left: it would be of another question."""
+    if answer.result.size is not None:
+        _files.replace(file, answer.picture().encode("utf-8"))
+        return file
+    if os.path.exists(file):
+        os.remove(file)
+    _tell(f"{file}: note: no picture, since there is no list to draw")
+    return None
 
 
 # check
@@ -513,7 +543,8 @@ def _check_list(arguments: argparse.Namespace) -> Outcome:
     if len(arguments.panels) != 2:
         arguments.parser.error("--list goes with two panels, OLD and NEW")
     old, new = _read_both(*arguments.panels)
-    problem = Problem(old.graph, new.graph, _read_substitutes(arguments.substitutes, old, new))
+    substitutes = _read_substitutes(arguments.substitutes, old, new)
+    problem = Problem(old.graph, new.graph, substitutes.pairs)
     pairs = read_list(arguments.pairs, old, new)
     _tell(*pairs.notes)
     try:
@@ -526,21 +557,21 @@ def _check_list(arguments: argparse.Namespace) -> Outcome:
 def _against_list(pairs: Pairs, old: Panel, new: Panel, refusal: MappingRefused) -> PanelError:
     """Which pair of a list by hand is against it, at its line."""
     mapping = dict(pairs.pairs)
-    name, other = old.graph.names[refusal.row], old.graph.names[refusal.earlier]
-    serves, other_serves = mapping[name], mapping[other]
-    other_line = f"(line {pairs.lines[other, other_serves]})"
-    if refusal.number == 20:
-        what = f"{shown(serves)} serves {shown(other)} already {other_line}"
-    elif refusal.number == 21:
+    name = old.graph.names[refusal.row]
+    serves = mapping[name]
+    if refusal.number == 21:
         what = (f"{shown(name)} is of kind {shown(old.kind(name))}, {shown(serves)} of kind"
                 f" {shown(new.kind(serves))}")
-    elif refusal.number == 22:
-        what = difference(old, new, (name, other), (serves, other_serves))
-        what += "" if name == other else f" {other_line}"
     else:
-        what = f"{refusal.reason} (refusal {refusal.number})"
+        # 20 or 22: these are about an earlier part too, which is in the list.
+        other = old.graph.names[refusal.earlier]
+        other_serves = mapping[other]
+        what = (f"{shown(serves)} serves {shown(other)} already" if refusal.number == 20
+                else difference(old, new, (name, other), (serves, other_serves)))
+        what += "" if name == other else f" (line {pairs.lines[other, other_serves]})"
     return PanelError(pairs.file, pairs.lines[name, serves],
-                      f"{shown(name)} as {shown(serves)} does not fit: {what}")
+                      f"{shown(name)} as {shown(serves)} does not fit: {what}"
+                      f" (refusal {refusal.number})")
 
 
 # limit and move
@@ -572,7 +603,8 @@ def _order(word: str) -> int:
 def _move(arguments: argparse.Namespace) -> Outcome:
     try:
         with open(arguments.source, "rb") as stream:
-            data = stream.read(_library.GRAPH_BYTES + 1)
+            # Some bytes more than a graph has: a fault beyond them comes after one before.
+            data = stream.read(_library.GRAPH_BYTES + 5)
     except OSError as error:
         raise _file_error(arguments.source, error) from None
     try:
@@ -581,6 +613,8 @@ def _move(arguments: argparse.Namespace) -> Outcome:
         what = refusal_at_byte(refusal)
         if data[:1] == b"\4" and not arguments.back:
             what += "; a file that begins with 4 is of edition 2 already"
+        elif data[:1] > b"\10":
+            what += "; this looks like a text, and a graph file has bytes"
         raise PanelError(arguments.source, None, what) from None
     _write_new(arguments.target, moved)
     return Outcome(DONE, "")

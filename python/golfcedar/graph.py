@@ -127,19 +127,26 @@ class Graph(Fixed):
 
     @classmethod
     def from_networkx(
-        cls, graph: Any, label: Hashable = "label", edge_label: Hashable = "label"
+        cls, graph: Any, label: Hashable | None = "label", edge_label: Hashable | None = "label"
     ) -> Graph:
         """A graph from one of networkx, which is neither directed nor a multigraph.
 
         Names are the nodes; labels are the attributes `label` of the nodes and `edge_label` of the
-        edges. A missing attribute counts as the label None.
+        edges, and a missing one is a GraphError. Give None for `label` or `edge_label` if nodes or
+        edges are all alike: their label is None.
         """
         if graph.is_directed():
             raise GraphError("a directed graph has no place here: give graph.to_undirected()")
         if graph.is_multigraph():
             raise GraphError("a multigraph has no place here: give one edge for each pair of nodes")
-        nodes = [(name, data.get(label)) for name, data in graph.nodes(data=True)]
-        edges = [(a, b, data.get(edge_label)) for a, b, data in graph.edges(data=True)]
+        nodes = [
+            (name, _attribute(data, label, f"node {name!r}"))
+            for name, data in graph.nodes(data=True)
+        ]
+        edges = [
+            (a, b, _attribute(data, edge_label, f"the edge of {a!r} and {b!r}"))
+            for a, b, data in graph.edges(data=True)
+        ]
         return cls(nodes, edges)
 
     def _content(self) -> tuple[Any, ...]:
@@ -234,11 +241,14 @@ class Problem(Fixed):
         except MappingRefused as refused:
             raise refused.named(self.old.names) from None
 
-    def agree(self, old_label: Hashable, new_label: Hashable) -> bool:
-        """Whether the labels of an old and a new vertex agree: equal, or listed as substitutes."""
-        return _same(old_label, new_label) or any(
-            _same(old_label, of) and _same(new_label, by) for of, by in self.substitutes
-        )
+
+def _attribute(data: Mapping[Hashable, Hashable], key: Hashable, what: str) -> Hashable:
+    if key is None:
+        return None
+    # Without it, everything would agree, and the answer would be to another question.
+    if key not in data:
+        raise GraphError(f"{what} has no attribute {key!r}; give None if all are alike")
+    return data[key]
 
 
 def _parts(item: Any, count: int, what: str) -> Sequence[Any]:
@@ -272,10 +282,6 @@ def _rising(i: int, j: int) -> tuple[int, int]:
     return (i, j) if i <= j else (j, i)
 
 
-def _same(one: Hashable, other: Hashable) -> bool:
-    return type(one) is type(other) and one == other
-
-
 def _number_in(graph: Graph, name: Hashable, what: str) -> int:
     try:
         return graph.number(name)
@@ -300,7 +306,7 @@ def _pairs(
 def _numbering(labels: Sequence[Hashable], largest: int, what: str) -> _Numbering:
     first: dict[Hashable, Hashable] = {}
     for label in labels:
-        if type(first.setdefault(label, label)) is not type(label):
+        if _types(first.setdefault(label, label)) != _types(label):
             raise GraphError(
                 f"{what} {first[label]!r} and {label!r} are equal, but of different types: "
                 "give one of them, or other labels"
@@ -312,8 +318,13 @@ def _numbering(labels: Sequence[Hashable], largest: int, what: str) -> _Numberin
     return {label: number for number, label in enumerate(first, 1)}
 
 
+def _types(label: Hashable) -> Any:
+    """The type of a label, and of its parts if it is a tuple."""
+    return (type(label), *map(_types, label)) if isinstance(label, tuple) else type(label)
+
+
 def _is_number(label: Hashable, largest: int) -> bool:
-    return isinstance(label, int) and not isinstance(label, bool) and 1 <= label <= largest
+    return type(label) is int and 1 <= label <= largest
 
 
 def _number_or_error(label: Hashable, largest: int, what: str) -> None:

@@ -22,6 +22,7 @@ MAX_ERRORS = 20
 MAX_FILE_BYTES = 1 << 20
 
 _FORMS = {"part": "part NAME KIND", "wire": "wire NAME NAME KIND"}
+_OTHER_QUOTES = "'\u2018\u2019\u201a\u201c\u201d\u201e\u00ab\u00bb"
 _WORD = re.compile(r'"([^"]*)"|([^ \t"#]+)')
 _BLANKS = re.compile(r"[ \t]*")
 
@@ -50,13 +51,16 @@ class PanelError(GolfcedarError):
 
 
 class Panel:
-    """A panel that was read: its graph, with names and kinds as words, and where they stand."""
+    """A panel that was read: the file's bytes, and its graph, with names and kinds as words.
 
-    def __init__(self, file: str, graph: Graph, lines: dict[str, int],
-                 wire_kinds: dict[str, int], notes: Sequence[str], is_text: bool) -> None:
+    `wire_kinds` has the first line of each kind of wire.
+    """
+
+    def __init__(self, file: str, data: bytes, graph: Graph, wire_kinds: dict[str, int],
+                 notes: Sequence[str], is_text: bool) -> None:
         self.file = file
+        self.data = data
         self.graph = graph
-        self.lines = lines
         self.wire_kinds = wire_kinds
         self.notes = tuple(notes)
         self.is_text = is_text
@@ -74,6 +78,7 @@ class Pairs(NamedTuple):
     """The pairs of words of a file, each with its line, in the order of the file."""
 
     file: str
+    data: bytes
     lines: dict[tuple[str, str], int]
     notes: tuple[str, ...]
 
@@ -128,7 +133,7 @@ def read_substitutes(file: str, old: Panel, new: Panel) -> Pairs:
     for (first, second), line in lines.items():
         _note_kind(reader, line, "old", old, first)
         _note_kind(reader, line, "new", new, second)
-    return Pairs(file, lines, tuple(reader.notes))
+    return Pairs(file, reader.data, lines, tuple(reader.notes))
 
 
 def read_list(file: str, old: Panel, new: Panel) -> Pairs:
@@ -143,7 +148,45 @@ def read_list(file: str, old: Panel, new: Panel) -> Pairs:
             reader.mend(line, f"part {shown(first)} stands on line {first_lines[first]} already")
         first_lines.setdefault(first, line)
     reader.finish()
-    return Pairs(file, lines, tuple(reader.notes))
+    return Pairs(file, reader.data, lines, tuple(reader.notes))
+
+
+def near_kinds(old: Panel, new: Panel, substitutes: Iterable[tuple[str, str]]) -> list[str]:
+    """Notes on kinds of one panel alone that may be another spelling of one of the other's.
+
+    A kind that is written in two ways gives a shorter list, and nothing else shows it.
+    """
+    listed = set(substitutes)
+    notes = []
+    for what, here, there in (
+        ("part", old.graph.labels, new.graph.labels),
+        ("wire", old.wire_kinds, new.wire_kinds),
+    ):
+        for kind in dict.fromkeys(each for each in here if each not in there):
+            for other in dict.fromkeys(each for each in there if each not in here):
+                if (kind, other) not in listed and _nearly_equal(kind, other):
+                    notes.append(f"note: {what}s of kind {shown(kind)} are only in {old.file}, of"
+                                 f" {shown(other)} only in {new.file}; if they are of one kind,"
+                                 f" write it in one way{_or_substitute(what)}")
+    return notes
+
+
+def _or_substitute(what: str) -> str:
+    return ", or name the two in the file of substitutes" if what == "part" else ""
+
+
+def _nearly_equal(one: str, other: str) -> bool:
+    """Whether two words differ in capitals, signs, order around a +, or a letter or two."""
+    plain, other_plain = _plain(one), _plain(other)
+    digits = [[sign for sign in word if sign.isdigit()] for word in (plain, other_plain)]
+    # Numbers tell kinds apart: a fuse of 6 A is none of 16 A.
+    return digits[0] == digits[1] and difflib.SequenceMatcher(
+        None, plain, other_plain, autojunk=False).ratio() > 0.8
+
+
+def _plain(word: str) -> str:
+    parts = sorted(word.casefold().split("+"))
+    return "".join(sign for part in parts for sign in part if sign.isalnum())
 
 
 _TOO_MANY_KINDS = (f"a {MAX_WIRE_KINDS + 1}th kind of wire; two panels together have at most"
@@ -170,14 +213,18 @@ class _Reader:
         self.notes: list[str] = []
         # The words before the fault of a line that cannot be read to its end.
         self.partial: list[list[str]] = []
-        self._data = data
+        self.data = data
 
     def __iter__(self) -> Iterator[tuple[int, list[str]]]:
         """Every line that has words, with its number; faulty ones are noted and left out."""
-        if self._data.startswith((b"\xff\xfe", b"\xfe\xff")):
+        if self.data.startswith((b"\xff\xfe", b"\xfe\xff")):
             self.mend(1, f"{_NOT_UTF8} (it looks like UTF-16)")
             return
-        lines = self._data.removeprefix(b"\xef\xbb\xbf").split(b"\n")
+        if b"\n" not in self.data and b"\r" in self.data:
+            self.mend(1, "the lines end in carriage returns alone: save the file with other line"
+                      " ends")
+            return
+        lines = self.data.removeprefix(b"\xef\xbb\xbf").split(b"\n")
         for number, raw in enumerate(lines, start=1):
             raw = raw[:-1] if raw.endswith(b"\r") else raw
             words, fault, glued = _split(raw)
@@ -247,7 +294,7 @@ def _word_fault(word: str, following: str) -> str | None:
     if following not in ("", " ", "\t", "#"):
         return f"a quote inside a word, at {word}: quotes stand around a whole word"
     for sign in word:
-        if sign != " " and unicodedata.category(sign) in ("Cc", "Zs", "Zl", "Zp"):
+        if sign != " " and unicodedata.category(sign) in ("Cc", "Cf", "Zs", "Zl", "Zp"):
             return (f"a character that cannot be seen (U+{ord(sign):04X}) in a word:"
                     " type it anew, with plain blanks")
     return None
@@ -262,7 +309,7 @@ def _bytes_panel(file: str, data: bytes) -> Panel:
     parts = zip(names, map(str, graph.labels))
     wires = [(names[i], names[j], str(label)) for i, j, label in graph.edges]
     kinds = {kind: 0 for _, _, kind in wires}
-    return Panel(file, Graph(parts, wires), {}, kinds, _empty_note(file, len(names)), False)
+    return Panel(file, data, Graph(parts, wires), kinds, _empty_note(file, len(names)), False)
 
 
 def refusal_at_byte(refusal: Refused) -> str:
@@ -294,7 +341,7 @@ def _text_panel(reader: _Reader) -> Panel:
     wires, kinds = _wires(reader, wire_lines, lines, known)
     reader.finish()
     notes = reader.notes + _empty_note(reader.file, len(parts))
-    return Panel(reader.file, Graph(parts, wires), lines, kinds, notes, True)
+    return Panel(reader.file, reader.data, Graph(parts, wires), kinds, notes, True)
 
 
 def _well_formed(reader: _Reader, line: int, words: list[str]) -> bool:
@@ -304,8 +351,9 @@ def _well_formed(reader: _Reader, line: int, words: list[str]) -> bool:
     if len(words) < wanted:
         reader.mend(line, f"too few words: {form}")
     elif len(words) > wanted:
-        reader.mend(line, f'too many words: {form}; put quotes around a word that has blanks, as in'
-                    ' "main switch"')
+        straight = "straight " if any(word[0] in _OTHER_QUOTES for word in words) else ""
+        reader.mend(line, f'too many words: {form}; put {straight}quotes around a word that has'
+                    ' blanks, as in "main switch"')
     return len(words) == wanted
 
 

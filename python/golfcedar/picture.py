@@ -52,7 +52,7 @@ _SUBSTITUTE = "substitute"
 _TITLE, _PANEL_TITLE, _NAME, _KIND, _LABEL = 18, 16, 13, 12, 11
 
 # The widest that texts may be before they are shortened.
-_NAME_ROOM, _BOX_ROOM, _LABEL_ROOM = 160, 300, 90
+_NAME_ROOM, _BOX_ROOM, _LABEL_ROOM = 240, 420, 190
 
 _MARGIN = 24
 _TITLE_LINE = 36
@@ -592,10 +592,28 @@ def _joins(character: str) -> bool:
 def _shorten(text: str, size: int, room: int, bold: bool = False) -> str:
     if _width(text, size, bold) <= room:
         return text
-    # What only changes a letter has no width, so it is never cut off alone.
-    while text and _width(text + "…", size, bold) > room:
-        text = text[:-1]
-    return text + "…"
+    # Names often differ in their last letters only, so the middle is left out.
+    letters = _letters(text)
+    kept = len(letters) - 1
+    while kept > 0 and _width(_without_middle(letters, kept), size, bold) > room:
+        kept -= 1
+    return _without_middle(letters, kept)
+
+
+def _without_middle(letters: Sequence[str], kept: int) -> str:
+    tail = kept // 2
+    return "".join(letters[: kept - tail]) + "…" + "".join(letters[len(letters) - tail :])
+
+
+def _letters(text: str) -> list[str]:
+    """The characters of a text, each with those that only change it."""
+    letters: list[str] = []
+    for character in text:
+        if letters and _joins(character):
+            letters[-1] += character
+        else:
+            letters.append(character)
+    return letters
 
 
 def _text(text: str) -> str:

@@ -114,7 +114,8 @@ class Result(Fixed):
         """
         row = self.problem.old.number(old_name)
         if self._rows[row] != _library.UNMAPPED:
-            raise ValueError(f"old vertex {old_name!r} is kept as {self.mapping[old_name]!r}")
+            kept_as = self.problem.new.names[self._rows[row]]
+            raise ValueError(f"old vertex {old_name!r} is kept as {kept_as!r}")
         found = (self._obstacle(row, new) for new in range(len(self.problem.new)))
         return [obstacle for obstacle in found if obstacle is not None]
 

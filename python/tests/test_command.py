@@ -146,7 +146,7 @@ ANSWER = """keep (5 of 7 parts)
   M1   motor           as M1
 remove (2)
   X1   terminal
-       as X1: between X1 and K2 runs a wire control, between X1 and Q2 a wire power
+       as X1: old: a wire control between X1 and K2; new: a wire power between X1 and Q2
   H1   horn
        no new part of its kind, nor of a substitute
 fit (2)
@@ -209,9 +209,10 @@ class Match(CommandCase):
         self.write("new.txt", "part A a\npart B b\npart C b\nwire A B x\nwire A C y\n")
         out = self.match("--plain").out
         self.assertIn("  C   b\n"
-                      "      as C: between C and A runs a wire x, between C and A a wire y\n"
+                      "      as C: old: a wire x between C and A; new: a wire y between C and A\n"
                       "      as B: serves B already\n", out)
-        self.assertIn("as B: D has a wire own with itself, B no wire\n", out)
+        self.assertIn("as B: old: a wire own of D with itself; new: no wire of B with itself\n",
+                      out)
 
     def test_at_most_four_reasons(self) -> None:
         self.write("old.txt", "\n".join(f"part R{n} relay" for n in range(8)))
@@ -242,9 +243,35 @@ class Match(CommandCase):
         self.assertTrue(out.startswith("proved: no list keeps 7 or more parts\n"), out)
         answer = self.match_json("--minimum", "7", "--connected")
         self.assertEqual((answer["size"], answer["final"], answer["keep"], answer["remove"]),
-                         (None, True, [], []))
+                         (None, True, [], None))
         self.assertEqual(answer["proved"],
                          "no list whose parts hang together keeps 7 or more parts")
+
+    def test_nothing_may_stay(self) -> None:
+        self.write("new.txt", "part Q1 siren\n")
+        out = self.match().out
+        self.assertTrue(out.startswith("keep (0 of 7 parts)\n  none\nremove (7)\n"), out)
+        self.assertIn("fit (1)\n  Q1   siren\n", out)
+        self.assertIn("proved: no list keeps 1 or more parts\n", out)
+        answer = self.match_json()
+        self.assertEqual((len(answer["remove"]), len(answer["fit"])), (7, 1))
+        self.assertIsNone(self.match_json("--minimum", "2")["remove"])
+
+    def test_a_fault_of_the_command_is_no_stopped_search(self) -> None:
+        with mock.patch.object(command, "_begin", side_effect=KeyError("fault")):
+            ran = self.run_in_place("match", "old.txt", "new.txt")
+        self.assertEqual((ran.status, ran.out), (2, ""))
+        self.assertIn("KeyError: 'fault'", ran.err)
+
+    def test_closed_streams(self) -> None:
+        for closed, status in (("2>&-", 0), (">&-", 2)):
+            script = f'exec "$0" -m golfcedar match old.txt new.txt --json {closed}'
+            environment = dict(os.environ, PYTHONPATH=str(PACKAGE))
+            ran = subprocess.run(["sh", "-c", script, sys.executable], env=environment,
+                                 capture_output=True, text=True)
+            self.assertEqual(ran.returncode, status)
+            if status == 0:
+                self.assertEqual(json.loads(ran.stdout)["format"], "golfcedar match 1")
 
     def test_plain_and_descend_agree(self) -> None:
         answers = [self.match_json(*options)
@@ -336,7 +363,10 @@ class Json(CommandCase):
         for part in answer["remove"]:
             self.assertRegex(text, rf"\n  {part['old']}   {part['kind']}\n")
             for reason in part["why"]:
-                self.assertIn(f" {reason}\n", text)
+                beginning = "" if reason["new"] is None else f"as {reason['new']}: "
+                self.assertIn(f" {beginning}{reason['text']}\n", text)
+        numbers = [[reason["number"] for reason in part["why"]] for part in answer["remove"]]
+        self.assertEqual(numbers, [[22], [21]])
         self.assertEqual(answer["fit"], [{"new": "X1", "kind": "terminal"},
                                          {"new": "P1", "kind": "light"}])
         self.assertEqual([len(answer["wires"][key]) for key in ("keep", "take_out", "run_anew")],
@@ -350,7 +380,27 @@ class Json(CommandCase):
         answer = self.match_json("--steps", "1", status=1)
         self.assertEqual((answer["state"], answer["final"], answer["size"], answer["proved"]),
                          ("stopped", False, None, None))
-        self.assertEqual(answer["wires"], {"keep": [], "take_out": [], "run_anew": []})
+        self.assertEqual([answer[key] for key in ("keep", "remove", "fit", "wires")],
+                         [[], None, None, None])
+
+    def test_final_before_it_is_done(self) -> None:
+        kinds = "".join(f"part P{number} kind{number}\n" for number in range(4))
+        self.write("old.txt", kinds)
+        self.write("new.txt", kinds)
+        answer = self.match_json("--steps", "5")
+        self.assertEqual((answer["state"], answer["final"], answer["size"], answer["proved"]),
+                         ("done", True, 4, "no list keeps more parts"))
+        self.assertEqual(answer["steps"], 5)
+
+    def test_options_are_told(self) -> None:
+        answer = self.match_json("--minimum", "2", "--connected", "--plain")
+        self.assertEqual([answer[key] for key in ("minimum", "connected", "descend")],
+                         [2, True, False])
+
+    def test_steps_of_all_runs(self) -> None:
+        whole = self.match_json("--plain")
+        self.match("--plain", "--resume", "saved", "--steps", "3", status=1)
+        self.assertEqual(self.match_json("--plain", "--resume", "saved")["steps"], whole["steps"])
 
     def test_refusals_are_text(self) -> None:
         text = self.refused("match", "old.txt", "missing", "--json")
@@ -388,8 +438,36 @@ class Resume(CommandCase):
         for expected in (1, 2, 3):
             out = self.resumed("--steps", "1", status=1).out
             self.assertIn(f"{expected} step", out)
-            self.assertIn("go on: the same command\n", out)
+            self.assertIn("go on: the same command; to have a list before the end, start anew with"
+                          " --plain\n", out)
         self.assertIn("1 of them in this run", out)
+
+    def test_a_panel_changed_while_the_search_ran(self) -> None:
+        go = command._Run.go
+        for name in ("old.txt", "new.txt", "sub.txt"):
+            def changing(run: command._Run) -> None:
+                go(run)
+                self.write(name, self.read(name) + b"# changed\n")
+            with mock.patch.object(command._Run, "go", changing):
+                text = self.refused("match", "old.txt", "new.txt", "--substitutes", "sub.txt")
+            self.assertIn(f"{name}: changed while the search ran", text)
+
+    def test_panels_through_pipes(self) -> None:
+        script = 'exec "$0" -m golfcedar match <(cat old.txt) <(cat new.txt) --json'
+        ran = subprocess.run(["bash", "-c", script, sys.executable], capture_output=True,
+                             text=True, env=dict(os.environ, PYTHONPATH=str(PACKAGE)))
+        self.assertEqual(json.loads(ran.stdout)["keep"], self.match_json()["keep"])
+
+    def test_two_runs_of_one_file(self) -> None:
+        advance = command._Run._advance
+        def meanwhile(run: command._Run, signals: command._Signals) -> None:
+            self.write("saved", "what another run saved")
+            advance(run, signals)
+        with mock.patch.object(command._Run, "_advance", meanwhile):
+            ran = self.resumed("--steps", "1", status=1)
+        self.assertIn("saved: changed by another run", ran.err)
+        self.assertIn("this run is not saved", ran.out)
+        self.assertEqual(self.read("saved"), b"what another run saved")
 
     def test_a_final_search_is_not_searched_again(self) -> None:
         first = self.resumed().out
@@ -602,13 +680,25 @@ class Svg(CommandCase):
             self.refused("match", "old.txt", "new.txt", "--svg", file)
 
     def test_a_write_that_fails_leaves_the_earlier_picture(self) -> None:
-        self.write("list.svg", "earlier")
+        self.match("--svg", "list.svg")
+        earlier = self.read("list.svg")
         with mock.patch.object(command.os, "replace", side_effect=OSError(28, "No space left")):
-            ran = self.match("--svg", "list.svg", status=2)
-        self.assertEqual(ran.err, "list.svg: No space left\n")
+            ran = self.match("--svg", "list.svg", "--connected", status=2)
+        self.assertIn("list.svg: No space left\n", ran.err)
         self.assertIn("proved:", ran.out)
-        self.assertEqual(self.read("list.svg"), b"earlier")
+        self.assertEqual(self.read("list.svg"), earlier)
         self.assertEqual(len(os.listdir()), 4)
+
+    def test_no_earlier_picture_is_left_without_a_list(self) -> None:
+        for options, status in ((["--minimum", "7"], 0), (["--steps", "1"], 1)):
+            self.match("--svg", "list.svg")
+            self.match("--svg", "list.svg", *options, status=status)
+            self.assertFalse(Path("list.svg").exists())
+
+    def test_other_files_are_not_overwritten(self) -> None:
+        self.write("notes.svg", "mine")
+        self.refused("match", "old.txt", "new.txt", "--svg", "notes.svg")
+        self.assertEqual(self.read("notes.svg"), b"mine")
 
 
 class Check(CommandCase):
@@ -648,15 +738,17 @@ class Check(CommandCase):
         self.assertEqual((ran.status, ran.out, ran.err), (2, "", f"list.txt:{text}\n"))
 
     def test_lists_that_do_not_fit(self) -> None:
-        self.assert_misfit("S1 Q0\nK1 Q1\n", "2: K1 as Q1 does not fit: K1 is of kind contactor, Q1"
-                           " of kind contactor-e")
-        self.assert_misfit("K2 Q2\nX1 X1\n", "2: X1 as X1 does not fit: between X1 and K2 runs a"
-                           " wire control, between X1 and Q2 a wire power (line 1)")
-        self.assert_misfit("K1 Q2\n", "1: K1 as Q2 does not fit: K1 has a wire hold with itself, Q2"
-                           " no wire")
+        unlike = ("K1 as Q1 does not fit: K1 is of kind contactor, Q1 of kind contactor-e"
+                  " (refusal 21)")
+        self.assert_misfit("S1 Q0\nK1 Q1\n", f"2: {unlike}")
+        self.assert_misfit("K1 Q1\n", f"1: {unlike}")
+        self.assert_misfit("K2 Q2\nX1 X1\n", "2: X1 as X1 does not fit: old: a wire control between"
+                           " X1 and K2; new: a wire power between X1 and Q2 (line 1) (refusal 22)")
+        self.assert_misfit("K1 Q2\n", "1: K1 as Q2 does not fit: old: a wire hold of K1 with"
+                           " itself; new: no wire of Q2 with itself (refusal 22)")
         self.write("old.txt", OLD.replace("wire K1 K1 hold\n", ""))
         self.assert_misfit("K2 Q2\nK1 Q2\n", "1: K2 as Q2 does not fit: Q2 serves K1 already"
-                           " (line 2)")
+                           " (line 2) (refusal 20)")
 
     def test_unknown_names(self) -> None:
         ran = self.check_list("S9 Q0\nK1 Q77\n")

@@ -129,13 +129,12 @@ class Bytes(unittest.TestCase):
                 Graph.from_bytes(data)
 
     def test_labels_that_are_no_numbers_in_range(self):
-        for label in (0, 65536, True, 1.0, "x", None):
+        for label in (0, 65536, True, 1.0, "x", None, Kind.RELAY):
             with self.assertRaisesRegex(GraphError, "from 1 to 65535"):
                 Graph([("a", label)]).to_bytes()
         for label in (0, 256, True, 1.0, "x", None):
             with self.assertRaisesRegex(GraphError, "from 1 to 255"):
                 Graph([("a", 1)], [("a", "a", label)]).to_bytes()
-        self.assertEqual(Graph([("a", Kind.RELAY)]).to_bytes(), bytes([4, 2, 3, 7, 0, 0]))
 
 
 class NetworkxLike:
@@ -159,12 +158,22 @@ class NetworkxLike:
 
 class FromNetworkx(unittest.TestCase):
     def test_like_one(self):
-        nodes = [("a", {"label": "x", "kind": "k"}), ("b", {})]
-        graph = NetworkxLike(nodes, [("b", "a", {"label": 5, "w": 6}), ("b", "b", {})])
-        expected = Graph([("a", "x"), ("b", None)], [("a", "b", 5), ("b", "b", None)])
+        nodes = [("b", {"label": "x", "kind": "k"}), ("a", {"label": None, "kind": "l"})]
+        edges = [("b", "a", {"label": 5, "w": 6}), ("b", "b", {"label": 7, "w": 8})]
+        graph = NetworkxLike(nodes, edges)
+        expected = Graph([("b", "x"), ("a", None)], [("a", "b", 5), ("b", "b", 7)])
         self.assertEqual(Graph.from_networkx(graph), expected)
-        other = Graph([("a", "k"), ("b", None)], [("a", "b", 6), ("b", "b", None)])
+        other = Graph([("b", "k"), ("a", "l")], [("a", "b", 6), ("b", "b", 8)])
         self.assertEqual(Graph.from_networkx(graph, label="kind", edge_label="w"), other)
+        alike = Graph([("b", None), ("a", None)], [("a", "b", None), ("b", "b", None)])
+        self.assertEqual(Graph.from_networkx(graph, label=None, edge_label=None), alike)
+
+    def test_missing_attributes(self):
+        with self.assertRaisesRegex(GraphError, "node 'a' has no attribute 'label'"):
+            Graph.from_networkx(NetworkxLike([("a", {"kind": 1})], []))
+        nodes = [("a", {"label": 1})]
+        with self.assertRaisesRegex(GraphError, "edge of 'a' and 'a' has no attribute 'label'"):
+            Graph.from_networkx(NetworkxLike(nodes, [("a", "a", {})]))
 
     def test_directed_and_multigraphs(self):
         with self.assertRaisesRegex(GraphError, "directed"):
@@ -175,17 +184,17 @@ class FromNetworkx(unittest.TestCase):
     @unittest.skipIf(networkx is None, "networkx is not installed")
     def test_real_one(self):
         graph = networkx.Graph()
-        graph.add_node("a", label="x")
-        graph.add_node("b")
+        graph.add_node("b", label="x")
+        graph.add_node("a", label="y")
         graph.add_edge("b", "a", label=5)
-        graph.add_edge("b", "b")
-        expected = Graph([("a", "x"), ("b", None)], [("a", "b", 5), ("b", "b", None)])
+        graph.add_edge("b", "b", label=6)
+        expected = Graph([("b", "x"), ("a", "y")], [("a", "b", 5), ("b", "b", 6)])
         self.assertEqual(Graph.from_networkx(graph), expected)
         for kind in (networkx.DiGraph, networkx.MultiGraph, networkx.MultiDiGraph):
             with self.assertRaises(GraphError):
                 Graph.from_networkx(kind())
         with self.assertRaisesRegex(GraphError, "65th"):
-            Graph.from_networkx(networkx.path_graph(65))
+            Graph.from_networkx(networkx.path_graph(65), label=None, edge_label=None)
 
 
 class Problems(unittest.TestCase):
@@ -284,13 +293,16 @@ class Problems(unittest.TestCase):
             self.assertEqual((error.number, error.row, error.earlier), (number, row, earlier))
             self.assertEqual(error.about, "mapping")
 
-    def test_agree(self):
-        problem = Problem(OLD, NEW, [(7, 8), (8, 9)])
-        self.assertTrue(problem.agree(7, 7))
-        self.assertTrue(problem.agree(7, 8))
-        self.assertFalse(problem.agree(8, 7))
-        self.assertFalse(problem.agree(7, 9))
-        self.assertFalse(problem.agree(7, 7.0))
+    def test_edge_labels_beyond_a_byte_are_numbered(self):
+        old = Graph({1: 5}, [(1, 1, 5)])
+        new = Graph({1: 5}, [(1, 1, 300)])
+        problem = Problem(old, new)
+        self.assertEqual(problem.old_bytes, bytes([4, 2, 3, 5, 0, 2, 0, 0, 1, 0]))
+        self.assertEqual(problem.new_bytes, bytes([4, 2, 3, 5, 0, 2, 0, 0, 2, 0]))
+
+    def test_equal_labels_of_other_types_within_tuples(self):
+        with self.assertRaisesRegex(GraphError, "different types"):
+            Problem(Graph({0: (1, "x")}), Graph({0: (True, "x")}))
 
 
 if __name__ == "__main__":

@@ -21,7 +21,9 @@ int main(void)
 {
     uint8_t text[GOLFCEDAR_REASON_BYTES];
     uint64_t length;
-    if (golfcedar_version() != GOLFCEDAR_VERSION || golfcedar_reason(8, text, sizeof text, &length) != 0)
+    if (golfcedar_version() != GOLFCEDAR_VERSION)
+        return 1;
+    if (golfcedar_reason(8, text, sizeof text, &length) != 0)
         return 1;
     printf("%.*s\\n", (int)length, (const char *)text);
     return 0;
@@ -52,8 +54,9 @@ class Install(unittest.TestCase):
             raise AssertionError(made.stderr)
 
     @classmethod
-    def make(cls, *words: str) -> subprocess.CompletedProcess[str]:
-        return run("make", *words, f"PYTHON={sys.executable}", cwd=CLONE, env=without_clone())
+    def make(cls, *words: str, umask: int = -1) -> subprocess.CompletedProcess[str]:
+        words = *words, f"PYTHON={sys.executable}"
+        return run("make", *words, cwd=CLONE, env=without_clone(), umask=umask)
 
     def installed(self, prefix: Path) -> set[str]:
         return {
@@ -86,8 +89,10 @@ class Install(unittest.TestCase):
 
     def test_command(self) -> None:
         command = self.prefix / "bin" / "golfcedar"
-        panels = PANELS / "old.txt", PANELS / "new.txt"
-        done = run(command, "match", *panels, env=without_clone(), cwd=self.folder.name)
+        files = (PANELS / f"{name}.txt" for name in ("old", "new", "substitutes"))
+        old, new, substitutes = files
+        words = "match", old, new, "--substitutes", substitutes
+        done = run(command, *words, env=without_clone(), cwd=self.folder.name)
         self.assertEqual((done.returncode, done.stderr), (0, ""))
         self.assertIn("proved: no list keeps more parts", done.stdout)
 
@@ -118,6 +123,23 @@ class Install(unittest.TestCase):
         environment = {**without_clone(), "LD_LIBRARY_PATH": str(self.prefix / "lib")}
         told = run(program, env=environment)
         self.assertEqual((told.returncode, told.stdout), (0, "an edge that is given already\n"))
+
+    def test_paths_that_are_not_whole(self) -> None:
+        for words in (["PREFIX=out"], ["PREFIX=/usr", "PYTHON=no-python"]):
+            with tempfile.TemporaryDirectory() as stage:
+                for target in ("install", "uninstall"):
+                    made = run("make", target, *words, f"DESTDIR={stage}", cwd=CLONE,
+                               env=without_clone())
+                    self.assertNotEqual(made.returncode, 0)
+                self.assertEqual(os.listdir(stage), [])
+
+    def test_readable_for_all(self) -> None:
+        with tempfile.TemporaryDirectory() as folder:
+            made = self.make("install", f"DESTDIR={folder}", "PREFIX=/usr", umask=0o077)
+            self.assertEqual(made.returncode, 0, made.stderr)
+            for path in Path(folder).rglob("*"):
+                if path.is_file():
+                    self.assertEqual(path.stat().st_mode & 0o444, 0o444, path)
 
     def test_uninstall_leaves_nothing(self) -> None:
         with tempfile.TemporaryDirectory() as folder:

@@ -6,6 +6,7 @@ import pickle
 import re
 import subprocess
 import sys
+import tempfile
 import types
 import unittest
 from pathlib import Path
@@ -76,6 +77,8 @@ class Texts(RefusalTest):
             str(Refused(5, 17, "new graph", "a text")), "new graph: a text (refusal 5, at byte 17)"
         )
         self.assertEqual(str(Refused(26, 0, "", "a text")), "a text (refusal 26)")
+        for number in (1, 2, 3, 4, 5, 7, 8, 9, 17, 27, 28):
+            self.assertIn("at byte 3", str(Refused(number, 3, "graph", "a text")))
 
     def test_text_of_a_refused_mapping(self):
         error = MappingRefused(22, 2, 0, "a text")
@@ -287,6 +290,9 @@ class Searches(RefusalTest):
                 _library.start(*PROBLEM, False, minimum, False)
             with self.assertRaises(ValueError):
                 _library.descend(*PROBLEM, False, minimum, checkpoint, 0)
+        for call in (lambda: golfcedar.step_limit(2.5, 2), lambda: golfcedar.reason(1.5)):
+            with self.assertRaises(TypeError):
+                call()
 
 
 class Header(unittest.TestCase):
@@ -304,11 +310,12 @@ class Header(unittest.TestCase):
 
     def test_sizes(self):
         sizes = re.findall(r"#define GOLFCEDAR_(\w+) (\d+|UINT64_MAX)", HEADER.read_text("utf-8"))
-        self.assertTrue(sizes)
-        for name, size in sizes:
-            if hasattr(_library, name):
-                number = 2**64 - 1 if size == "UINT64_MAX" else int(size)
-                self.assertEqual(getattr(_library, name), number, name)
+        declared = {name: 2**64 - 1 if size == "UINT64_MAX" else int(size) for name, size in sizes}
+        declared["MAJOR"] = declared.pop("VERSION_MAJOR")
+        for name in ("VERSION_MINOR", "VERSION_PATCH", "CLIQUE_VERTICES"):
+            del declared[name]
+        self.assertEqual({name: getattr(_library, name) for name in declared}, declared)
+        self.assertEqual(golfcedar.version()[0], _library.MAJOR)
 
     def test_parameters(self):
         text = HEADER.read_text("utf-8")
@@ -356,6 +363,19 @@ class Finding(unittest.TestCase):
         given = list(_library._candidates())
         with mock.patch.object(_library, "_candidates", lambda: ["/no/such/library", *given]):
             self.assertEqual(len(golfcedar.version()), 3)
+
+    def test_one_that_is_there_and_cannot_be_loaded_is_not_passed_over(self):
+        given = list(_library._candidates())
+        with tempfile.NamedTemporaryFile() as damaged:
+            found = [damaged.name, *given]
+            with mock.patch.object(_library, "_candidates", lambda: found):
+                with self.assertRaises(LibraryMissing):
+                    golfcedar.version()
+
+    def test_another_major_version(self):
+        with mock.patch.object(_library, "MAJOR", 2):
+            with self.assertRaisesRegex(LibraryMissing, "version 1, and version 2 is needed"):
+                golfcedar.version()
 
     def test_import_loads_nothing(self):
         environment = {**os.environ, "GOLFCEDAR_LIBRARY": "/no/such", "PYTHONPATH": PACKAGE_FOLDER}

@@ -7,7 +7,8 @@ import unittest
 from pathlib import Path
 
 from golfcedar import Graph, GolfcedarError
-from golfcedar.panel import (PanelError, check_pair, read_list, read_panel, read_substitutes, shown)
+from golfcedar.panel import (Panel, PanelError, check_pair, near_kinds, read_list, read_panel,
+                             read_substitutes, shown)
 
 
 class PanelCase(unittest.TestCase):
@@ -56,7 +57,7 @@ class Reading(PanelCase):
                            "wire K1 K1 hold\n")
         self.assertEqual(panel.graph, Graph([("K1", "contactor"), ("M1", "hoist motor")],
                                             [("K1", "M1", "power"), ("K1", "K1", "hold")]))
-        self.assertEqual(panel.lines, {"K1": 4, "M1": 5})
+        self.assertEqual(panel.wire_kinds, {"power": 2, "hold": 6})
         self.assertEqual(panel.kind("M1"), "hoist motor")
         self.assertEqual(panel.wire("M1", "K1"), "power")
         self.assertIsNone(panel.wire("M1", "M1"))
@@ -101,6 +102,35 @@ class Reading(PanelCase):
         self.assertEqual((len(panel.graph), len(panel.graph.edges)), (64, 2080))
         check_pair(panel, panel)
 
+    def test_wire_kinds_of_both_panels_together(self) -> None:
+        def with_kinds(*numbers: int) -> Panel:
+            lines = [f"part K{n} relay" for n in range(64)]
+            ends = [(a, b) for a in range(64) for b in range(a + 1)]
+            lines += [f"wire K{a} K{b} w{n}" for (a, b), n in zip(ends, numbers)]
+            return self.panel("\n".join(lines))
+        old = with_kinds(*range(200))
+        check_pair(old, with_kinds(*range(255)))
+        with self.assertRaisesRegex(PanelError, "a 256th kind of wire"):
+            check_pair(old, with_kinds(*range(256)[1:], 255))
+        check_pair(old, with_kinds(*range(1, 255)))
+        with self.assertRaisesRegex(PanelError, "a 256th kind of wire"):
+            check_pair(old, with_kinds(*range(200, 256)))
+
+    def test_kinds_that_are_nearly_equal(self) -> None:
+        def notes(old: str, new: str, *substitutes: tuple[str, str]) -> list[str]:
+            return near_kinds(self.panel(old), self.panel(new), substitutes)
+        wires = "part K1 relay\npart K2 relay\nwire K1 K2 "
+        for old, new in (("relay-24V", "Relay-24v"), ("relay", "relay,"),
+                         ("contactor", "contacter"), ("relay-24V", "relay-24V-e")):
+            self.assertEqual(len(notes(f"part K1 {old}", f"part K1 {new}")), 1, (old, new))
+            self.assertEqual(notes(f"part K1 {old}", f"part K1 {new}", (old, new)), [])
+        for old, new in (("power+control", "control+power"), ("power", "powr")):
+            self.assertEqual(len(notes(wires + old, wires + new)), 1)
+        for old, new in (("relay", "relay"), ("fuse-6A", "fuse-16A"), ("fuse", "relay")):
+            self.assertEqual(notes(f"part K1 {old}", f"part K1 {new}"), [])
+        both = "part K1 relay\npart K2 relais"
+        self.assertEqual(notes(both, both), [])
+
     def test_shown(self) -> None:
         words = ["K1", "main switch", "a#1", "ä"]
         self.assertEqual([shown(word) for word in words], ["K1", '"main switch"', '"a#1"', "ä"])
@@ -133,7 +163,10 @@ class Errors(PanelCase):
         self.assert_error("part K1\u00a0a relay\n", 1, "U+00A0")
         self.assert_error("part K1 re\x1blay\n", 1, "U+001B")
         self.assert_error('part K1 "re\tlay"\n', 1, "U+0009")
+        for sign in "\u200b\u00ad\u2060\ufeff\u200e":
+            self.assert_error(f"part K1 re{sign}lay\n", 1, f"U+{ord(sign):04X}")
         self.assert_error("part K1 relay\rpart K2 relay\n", 1)
+        self.assert_error("part K1 relay\rpart K2 relay\r", 1, "line ends")
 
     def test_a_part_given_twice(self) -> None:
         self.assert_error("part K1 relay\n\npart K1 fuse\n", 3, "K1", "line 1")

@@ -234,19 +234,27 @@ class Texts(unittest.TestCase):
 
     def test_long_texts_are_shortened_and_whole_in_the_tooltip(self) -> None:
         for letter in ("W", "i", "電", "e\u0301"):
-            word = letter * 200
+            word = letter * 300
             side = Side(word, [(word, word), ("A", "k")], [(0, 1, word)])
             root = parse(picture(side, side, [(0, 0)], title=word))
             texts = visible_texts(root)
             self.assertNotIn(word, texts)
             for text in texts:
-                self.assertLess(len(text), 200)
+                self.assertLess(len(text), 300)
             for text in filter(lambda t: "…" in t, texts):
                 self.assertNotIn("e…", text, "a letter lost its accent")
+                self.assertNotIn("…\u0301", text, "an accent lost its letter")
             self.assertIn(word, tooltip(of_class(root, "part")[0]))
             self.assertIn(word, tooltip(of_class(root, "wire")[0]))
             self.assertEqual(tooltip(root), word)
-            self.assertLess(int(root.get("width")), 1500)
+            self.assertLess(int(root.get("width")), 2000)
+
+    def test_names_that_differ_at_their_end_stay_apart(self) -> None:
+        names = [f"the contactor of the hoist on the left side for {way}" for way in ("up", "down")]
+        side = Side("", [(name, "contactor") for name in names], [(0, 1, "interlock")])
+        texts = visible_texts(parse(picture(side, side, [])))
+        shortened = {text for text in texts if text.startswith("the contactor") and "…" in text}
+        self.assertEqual(len(shortened), 2, texts)
 
     def test_text_of_accents_only(self) -> None:
         word = "\u0301" * 300

@@ -43,7 +43,8 @@ class Readme(unittest.TestCase):
         return status, out.getvalue().splitlines()
 
     def test_main_job(self) -> None:
-        line = next(line for line in README.splitlines() if line.startswith("    ./golfcedar match "))
+        lines = README.splitlines()
+        line = next(line for line in lines if line.startswith("    ./golfcedar match "))
         status, answer = self.run_command(shlex.split(line)[1:])
         self.assertEqual(status, 0)
         self.assertEqual(Path("picture.svg").read_bytes(), (CLONE / "docs/panels.svg").read_bytes())
@@ -61,6 +62,14 @@ class Readme(unittest.TestCase):
         told = subprocess.run(["./linked", "--version"], capture_output=True, text=True)
         self.assertEqual((told.returncode, told.stderr), (0, ""))
         self.assertRegex(told.stdout, r"^golfcedar \d+\.\d+\.\d+\n$")
+
+    def test_script_takes_no_module_of_the_folder(self) -> None:
+        Path("json.py").write_text("raise SystemExit(9)\n")
+        os.mkdir("golfcedar")
+        words = [CLONE / "golfcedar", "match", CLONE / "examples/panels/old.txt"]
+        told = subprocess.run([*words, words[-1], "--json"], capture_output=True, text=True)
+        self.assertEqual((told.returncode, told.stderr), (0, ""))
+        self.assertIn('"size": 14', told.stdout)
 
     def test_panel_that_is_shown(self) -> None:
         text = README.split("# the old panel\n", 1)[1].split("\n\n", 1)[0]

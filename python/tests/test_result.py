@@ -39,6 +39,11 @@ class Lists(unittest.TestCase):
         )
         self.assertEqual(result.new_edges, [Edge("s", "h", "wire"), Edge("f", "f", "bar")])
 
+    def test_new_vertices_that_stand_before_those_that_serve(self):
+        result = finished(Graph({"a": 1, "b": 2}), Graph({"x": 3, "y": 2, "z": 1}))
+        self.assertEqual(result.mapping, {"a": "z", "b": "y"})
+        self.assertEqual(result.new_vertices, ["x"])
+
     def test_numbers(self):
         search = Search(OLD, NEW, minimum=2, connected=True)
         search.advance(10**9)

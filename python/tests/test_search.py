@@ -25,11 +25,12 @@ from golfcedar import (
     _library,
 )
 
-# The package's name `search` is the function.
-module = importlib.import_module("golfcedar.search")
+module = importlib.import_module("golfcedar._search")
+files = importlib.import_module("golfcedar._files")
 
 OLD = Graph([(0, 7), (1, 9), (2, 7)], [(0, 1, 1), (1, 2, 1)])
 NEW = Graph([(0, 9), (1, 7)], [(0, 1, 1)])
+OTHER_INPUTS = "other graphs or substitutes"
 KINDS = [dict(connected=c, descend=d) for c in (False, True) for d in (False, True)]
 
 
@@ -439,7 +440,7 @@ class SavedAndLoaded(Files):
         search.advance(100)
         for name in ("replace", "fsync"):
             for error in (OSError, KeyboardInterrupt):
-                with mock.patch.object(module.os, name, side_effect=error):
+                with mock.patch.object(files.os, name, side_effect=error):
                     with self.assertRaises(error):
                         search.save(self.path)
                 self.assertEqual(self.names(), ["saved"])
@@ -456,12 +457,10 @@ class OtherQuestions(Files):
     def test_corrected_edge_after_the_end(self):
         whole(OLD, NEW).save(self.path)
         corrected = Graph(list(zip(OLD.names, OLD.labels)), [(0, 1, 1), (1, 2, 2)])
-        text = self.refused(OtherQuestion, "another old graph", corrected, NEW)
-        self.assertNotIn("new graph", text)
+        text = self.refused(OtherQuestion, OTHER_INPUTS, corrected, NEW)
         self.assertIn("start anew, or name another file", text)
         corrected = Graph(list(zip(NEW.names, NEW.labels)))
-        text = self.refused(OtherQuestion, "another new graph", OLD, corrected)
-        self.assertNotIn("old graph", text)
+        self.refused(OtherQuestion, OTHER_INPUTS, OLD, corrected)
 
     def test_each_change_of_a_graph(self):
         Search(OLD, NEW).save(self.path)
@@ -471,31 +470,57 @@ class OtherQuestions(Files):
             Graph([(0, 7), (1, 9), (2, 7)], [(0, 1, 1), (1, 2, 1), (2, 2, 1)]),
             Graph([(0, 7), (1, 9), (2, 7)], [(0, 1, 1), (0, 2, 1)]),
         ]:
-            self.refused(OtherQuestion, "another old graph", graph, NEW)
-        self.refused(OtherQuestion, "another old graph, another new graph", NEW, OLD)
+            self.refused(OtherQuestion, OTHER_INPUTS, graph, NEW)
+        self.refused(OtherQuestion, OTHER_INPUTS, NEW, OLD)
 
     def test_substitutes(self):
         listed = [(7, 8), (7, 9)]
         Search(OLD, NEW, substitutes=listed).save(self.path)
         for other in ([], [(7, 8)], [(7, 9), (7, 8)], [(7, 8), (9, 7)]):
-            text = self.refused(OtherQuestion, "other substitutes", OLD, NEW, substitutes=other)
-            self.assertNotIn("graph", text.replace(str(self.path), ""))
+            self.refused(OtherQuestion, OTHER_INPUTS, OLD, NEW, substitutes=other)
         Search.load(self.path, OLD, NEW, substitutes=listed)
 
     def test_each_option(self):
         for saved in KINDS:
             Search(OLD, NEW, minimum=2, **saved).save(self.path)
             for name, value in saved.items():
-                text = f"{name} {value}, not {not value}"
+                text = f"saved for {name} {value}:"
                 self.refused(OtherQuestion, text, OLD, NEW, **{name: not value})
             for minimum in (0, 1, 3, 300):
-                text = f"minimum 2, not {minimum}"
-                self.refused(OtherQuestion, text, OLD, NEW, minimum=minimum)
+                self.refused(OtherQuestion, "saved for minimum 2:", OLD, NEW, minimum=minimum)
 
     def test_all_that_differs_is_named(self):
         Search(OLD, NEW).save(self.path)
-        text = "another new graph, minimum 1, not 2, connected False, not True"
+        text = f"{OTHER_INPUTS}, minimum 1, connected False:"
         self.refused(OtherQuestion, text, OLD, OLD, minimum=2, connected=True)
+        with self.assertRaises(OtherQuestion) as caught:
+            Search.load(self.path, OLD, OLD, minimum=2, connected=True)
+        told = {"new": NEW.to_bytes().hex(), "minimum": 1, "connected": False}
+        self.assertEqual(caught.exception.saved, told)
+
+    def test_steps_of_a_descent_are_those_of_all_its_searches(self):
+        search = Search(ROW_OLD, ROW_NEW, connected=True)
+        problem = search.problem.as_bytes()
+        started = _library.start(*problem, True, 1, True)
+        _, _, visits = _library.descend(*problem, True, 1, started, 10**6)
+        search.advance(10**6)
+        self.assertEqual((search.steps, visits), (152, 152))
+
+    def test_plain_checkpoint_of_another_minimum(self):
+        for minimum in (0, 2):
+            Search(OLD, NEW, minimum=minimum, descend=False).save(self.path)
+            content = json.loads(self.path.read_text())
+            content["minimum"] = 1
+            content["digest"] = module._digest(content)
+            self.path.write_text(json.dumps(content))
+            with self.assertRaises(DamagedFile):
+                Search.load(self.path, OLD, NEW)
+
+    def test_a_mapping_below_the_minimum_is_no_result(self):
+        search = whole(OLD, NEW)
+        search._state = search._state._replace(mapping=bytes([255] * 3), size=0)
+        with self.assertRaises(GolfcedarError):
+            search.result()
 
     def test_options_in_no_form(self):
         Search(OLD, NEW).save(self.path)

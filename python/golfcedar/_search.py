@@ -2,16 +2,14 @@
 
 from __future__ import annotations
 
-import contextlib
 import hashlib
 import json
 import operator
 import os
-import secrets
 import time
 from typing import Any, Hashable, Iterable, Iterator, NamedTuple, Union
 
-from . import _library
+from . import _files, _library
 from .errors import DamagedFile, GolfcedarError, OtherQuestion, Refused
 from .graph import Graph, Problem
 from .result import Result
@@ -27,7 +25,7 @@ _FIELDS = frozenset(
 # No saved search comes near it, and what is larger is not read whole.
 _FILE_LIMIT = 65536
 
-_Path = Union[str, "os.PathLike[str]"]
+_Path = Union[str, bytes, "os.PathLike[str]", "os.PathLike[bytes]"]
 
 
 class Progress(NamedTuple):
@@ -137,9 +135,16 @@ class Search(Iterator[Progress]):
         left = _whole(steps, "steps")
         while left > 0 and not self.done:
             before = self.steps
-            self._work(min(left, self._share))
+            self.work(left)
             left -= self.steps - before
-        return Progress(self.size, self.ceiling, self.steps)
+        return self._progress()
+
+    def work(self, most: int | None = None) -> Progress:
+        """Goes on for about 0.1 s, and for at most so many steps; less only if it is done."""
+        budget = self._share if most is None else min(self._share, _whole(most, "steps"))
+        if not self.done:
+            self._make(budget)
+        return self._progress()
 
     def __iter__(self) -> Search:
         return self
@@ -148,7 +153,7 @@ class Search(Iterator[Progress]):
         """Goes on for about 0.1 s. StopIteration once the search is done."""
         if self.done:
             raise StopIteration
-        return self.advance(self._share)
+        return self.work()
 
     def result(self) -> Result:
         """What is found so far, checked again by the library against the same two graphs."""
@@ -186,8 +191,7 @@ class Search(Iterator[Progress]):
         }
         content["digest"] = _digest(content)
         text = json.dumps(content, indent=1) + "\n"
-        # A link stays a link: what it leads to is replaced.
-        _replace(os.path.realpath(os.fsdecode(path)), text.encode("utf-8"))
+        _files.replace(os.fsdecode(path), text.encode("utf-8"))
 
     @classmethod
     def load(
@@ -217,10 +221,9 @@ class Search(Iterator[Progress]):
         )
         differing = question.differences(saved)
         if differing:
-            words = ", ".join(differing.values())
             raise OtherQuestion(
-                f"{name}: saved for {words}: start anew, or name another file",
-                {key: saved[key] for key in differing},
+                f"{name}: saved for {_in_words(differing)}: start anew, or name another file",
+                differing,
             )
         return cls._resumed(name, question, saved)
 
@@ -241,7 +244,10 @@ class Search(Iterator[Progress]):
         reading = question.read_out(checkpoint)
         self._state = question.go_on(_State.of(checkpoint, steps, 0, reading), 0)
 
-    def _work(self, budget: int) -> None:
+    def _progress(self) -> Progress:
+        return Progress(self.size, self.ceiling, self.steps)
+
+    def _make(self, budget: int) -> None:
         began = time.monotonic()
         state = self._question.go_on(self._state, budget)
         seconds = time.monotonic() - began
@@ -319,17 +325,9 @@ class _Question(NamedTuple):
             "descend": self.descend,
         }
 
-    def differences(self, saved: dict[str, Any]) -> dict[str, str]:
-        """What a saved search has otherwise, each in words."""
-        mine = self.as_saved()
-        inputs = {
-            "old": "another old graph",
-            "new": "another new graph",
-            "substitutes": "other substitutes",
-        }
-        for key in ("minimum", "connected", "descend"):
-            inputs[key] = f"{key} {saved[key]}, not {mine[key]}"
-        return {key: words for key, words in inputs.items() if saved[key] != mine[key]}
+    def differences(self, saved: dict[str, Any]) -> dict[str, Any]:
+        """What a saved search has otherwise, as it has it."""
+        return {key: saved[key] for key, mine in self.as_saved().items() if saved[key] != mine}
 
     def could_leave(self, state: _State) -> bool:
         """Whether minimum and steps of a state that was loaded can be those of this question."""
@@ -338,6 +336,13 @@ class _Question(NamedTuple):
         if self.descend:
             return minimum >= self.minimum and state.steps >= state.own_steps
         return minimum == self.minimum
+
+
+def _in_words(saved: dict[str, Any]) -> str:
+    options = [f"{key} {saved[key]}" for key in ("minimum", "connected", "descend") if key in saved]
+    # Labels are numbered jointly, so a new label in one graph may change the bytes of all three.
+    inputs = saved.keys() & {"old", "new", "substitutes"}
+    return ", ".join(["other graphs or substitutes"] * bool(inputs) + options)
 
 
 def _whole(number: int, what: str) -> int:
@@ -359,21 +364,6 @@ def _digest(content: dict[str, Any]) -> str:
     return hashlib.sha256(canonical.encode("utf-8")).hexdigest()
 
 
-def _replace(path: str, data: bytes) -> None:
-    second = f"{path}.{secrets.token_hex(4)}.saving"
-    stream = open(second, "xb")
-    try:
-        with stream:
-            stream.write(data)
-            stream.flush()
-            os.fsync(stream.fileno())
-        os.replace(second, path)
-    except BaseException:
-        with contextlib.suppress(FileNotFoundError):
-            os.remove(second)
-        raise
-
-
 def _damaged(name: str, why: str) -> DamagedFile:
     return DamagedFile(f"{name}: damaged, or not a saved search: {why}")
 
@@ -389,10 +379,10 @@ def _read_saved(name: str) -> dict[str, Any]:
         raise _damaged(name, "it is not JSON, or cut off") from None
     if not isinstance(content, dict) or content.keys() != _FIELDS:
         raise _damaged(name, "it does not have the fields of one")
-    if content["digest"] != _digest(content):
-        raise _damaged(name, "it was changed after it was saved")
     if not _in_form(content):
         raise _damaged(name, f"its fields are not those of the format {_FORMAT!r}")
+    if content["digest"] != _digest(content):
+        raise _damaged(name, "it was changed after it was saved")
     return content
 
 
