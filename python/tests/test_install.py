@@ -145,10 +145,10 @@ class Install(unittest.TestCase):
         with tempfile.TemporaryDirectory() as folder:
             stage = Path(folder)
             for target in ("install", "uninstall"):
-                made = self.make(target, f"DESTDIR={stage}", "PREFIX=/opt/golfcedar")
+                made = self.make(target, f"DESTDIR={stage}", "PREFIX=/usr/local")
                 self.assertEqual(made.returncode, 0, made.stderr)
                 files = self.installed(stage)
-                self.assertTrue(all(name.startswith("opt/golfcedar/") for name in files))
+                self.assertTrue(all(name.startswith("usr/local/") for name in files))
                 self.assertEqual(bool(files), target == "install")
 
 
