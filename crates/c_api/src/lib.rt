@@ -6,7 +6,6 @@ use graph::Label;
 use graph::MAX_ORDER;
 use graph_reader::Edition;
 use problem_reader::ProblemRead;
-use reasons::ReasonAnswer;
 ghost use mathlib.Core.Path.{_≡_};
 ghost use Rattle.answers.specs.Output.{fill};
 ghost use Rattle.reasons.specs.Reasons.{reasonText};
@@ -63,16 +62,9 @@ pub extern "C" fn golfcedar_check_problem(
 pub extern "C" fn golfcedar_reason(number: u32, text: &mut [u8], value: &mut u64) -> u32
     ensures { λ r. ⌜ wrote (reply r (now (value .exit))) (now (text .exit)) ≡ wroteBy (fill (reasonText number) (now (text .entry))) ⌝ }
 {
-    match reasons::reason(number, text) {
-        ReasonAnswer::Written(length) => {
-            *value = length as u64;
-            0
-        }
-        ReasonAnswer::TooShort => {
-            *value = 0;
-            13
-        }
-    }
+    let reply = replies::of_reason(reasons::reason(number, text));
+    *value = reply.value;
+    reply.number
 }
 
 // The library's version.

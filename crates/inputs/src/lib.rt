@@ -3,11 +3,14 @@
 use graph::EDGE_BYTES;
 use graph::Label;
 use graph::MAX_ORDER;
+use problem::ProblemFlaw;
 use replies::Reply;
 use substitutes::SubstitutesAnswer;
 ghost use mathlib.Core.Path.{_≡_};
+ghost use Rattle.answers.specs.Answer.{refused};
 ghost use Rattle.graph_reader.specs.Reading.{readGraph};
 ghost use Rattle.substitutes.specs.Soundness.{substitutesAnswer};
+ghost use Rattle.problem.specs.Answers.{problemFlawNumber};
 ghost use Rattle.replies.specs.Reply.{replyOf};
 ghost use Rattle.inputs.specs.Judging.{judging};
 
@@ -35,16 +38,27 @@ pub fn judge_graph(graph: &[u8]) -> Reply
     replies::of_read(graph_reader::read_graph(graph, &mut labels, &mut edges))
 }
 
+fn flawed(flaw: ProblemFlaw) -> Reply
+    ensures { λ r. ⌜ r ≡ replyOf (refused (problemFlawNumber flaw)) ⌝ }
+{
+    Reply {
+        number: problem::problem_flaw_number(flaw) as u32,
+        value: 0,
+    }
+}
+
 // Whether the list is sound.
 fn judge_list(list: &[u8]) -> Reply
     ensures { λ r. ⌜ r ≡ replyOf (substitutesAnswer (now (list .entry))) ⌝ }
 {
-    let number = match substitutes::check_substitutes(list) {
-        SubstitutesAnswer::Sound => 0,
-        SubstitutesAnswer::Length => 23,
-        SubstitutesAnswer::Labels => 24,
-    };
-    Reply { number, value: 0 }
+    match substitutes::check_substitutes(list) {
+        SubstitutesAnswer::Sound => Reply {
+            number: 0,
+            value: 0,
+        },
+        SubstitutesAnswer::Length => flawed(ProblemFlaw::SubstitutesLength),
+        SubstitutesAnswer::Labels => flawed(ProblemFlaw::SubstitutesLabels),
+    }
 }
 
 // The old graph comes first, then the new one, then the list.

@@ -3,10 +3,11 @@
 mod table;
 
 ghost use mathlib.Core.Path.{_≡_};
+ghost use Rattle.answers.specs.Answer.{refusalNumber};
 ghost use Rattle.answers.specs.Output.{fill};
 ghost use Rattle.reasons.specs.Reasons.{reasonText};
 ghost use Rattle.reasons.specs.Rows.{RowsTell};
-ghost use Rattle.reasons.specs.Answers.{writingOf};
+ghost use Rattle.reasons.specs.Answers.{reasonAnswer, writingOf};
 
 // Each number below this one has a row.
 const COUNT: usize = 29;
@@ -23,6 +24,16 @@ struct Row {
 pub enum ReasonAnswer {
     Written(usize),
     TooShort,
+}
+
+// The document's number of a refusal, and 0 where the text was written.
+pub fn reason_number(answer: ReasonAnswer) -> u8
+    ensures { λ r. ⌜ r ≡ refusalNumber (reasonAnswer answer) ⌝ }
+{
+    match answer {
+        ReasonAnswer::Written(_) => 0,
+        ReasonAnswer::TooShort => 13,
+    }
 }
 
 fn all_rows() -> [Row; COUNT]

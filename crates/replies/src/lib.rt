@@ -1,5 +1,5 @@
 // What a caller outside Rattle gets, in numbers: the reply to an answer, to a search call on checkpoint bytes, to a reading out
-// of them, to clique branching, and to the step limit foretold.
+// of them, to clique branching, to the step limit foretold, and to the writing of a number's text.
 
 mod held;
 mod values;
@@ -15,12 +15,14 @@ use mapping::MappingAnswer;
 use problem::Edges;
 use problem::Labels;
 use problem::Orders;
+use reasons::ReasonAnswer;
 use search::SearchAnswer;
 use search::WORDS;
 use step_limit::LimitAnswer;
 ghost use mathlib.Core.Path.{_≡_};
 ghost use Prim.Native.Nat.{_≤_};
 ghost use lib.ListN.{getD};
+ghost use Rattle.reasons.specs.Answers.{reasonAnswer};
 ghost use Rattle.graph_reader.specs.Answers.{readAnswer};
 ghost use Rattle.graph_writer.specs.Answers.{moveAnswer};
 ghost use Rattle.problem.specs.Lent.{lent};
@@ -84,6 +86,15 @@ pub fn of_move(answer: MoveAnswer) -> Reply
     Reply {
         number: graph_writer::move_number(answer) as u32,
         value: values::move_value(answer),
+    }
+}
+
+pub fn of_reason(answer: ReasonAnswer) -> Reply
+    ensures { λ r. ⌜ r ≡ replyOf (reasonAnswer answer) ⌝ }
+{
+    Reply {
+        number: reasons::reason_number(answer) as u32,
+        value: values::reason_value(answer),
     }
 }
 

@@ -6,10 +6,12 @@ use clique::CliqueAnswer;
 use graph_reader::ReadAnswer;
 use graph_writer::MoveAnswer;
 use mapping::MappingAnswer;
+use reasons::ReasonAnswer;
 use search::SearchAnswer;
 use step_limit::LimitAnswer;
 ghost use mathlib.Core.Path.{_≡_};
 ghost use Rattle.answers.specs.Answer.{valueOf};
+ghost use Rattle.reasons.specs.Answers.{reasonAnswer};
 ghost use Rattle.graph_reader.specs.Answers.{readAnswer};
 ghost use Rattle.graph_writer.specs.Answers.{moveAnswer};
 ghost use Rattle.mapping.specs.Answers.{mappingOutcome};
@@ -37,6 +39,15 @@ pub fn move_value(answer: MoveAnswer) -> u64
         MoveAnswer::Moved(count) => count as u64,
         MoveAnswer::Refused(_, at) => at as u64,
         MoveAnswer::TooShort => 0,
+    }
+}
+
+pub fn reason_value(answer: ReasonAnswer) -> u64
+    ensures { λ r. ⌜ r ≡ valueOf (reasonAnswer answer) ⌝ }
+{
+    match answer {
+        ReasonAnswer::Written(count) => count as u64,
+        ReasonAnswer::TooShort => 0,
     }
 }
 
