@@ -8,8 +8,7 @@ use native.Mathlib.Omega.{arith}
 use borrow.Author.Tests.{leb-true, le-leb, lt-leb}
 use lib.Dec.{leb}
 use lib.ListN.{length, getD, length-take, List·getD-map, List·getD-eq-default}
-use Rattle.answers.specs.Answer.{accepted}
-use Rattle.answers.specs.Output.{Writing, fill}
+use Rattle.answers.specs.Output.{fill}
 use Rattle.text.specs.Put.{Put}
 use Rattle.text.proofs.PutTexts.{put-front}
 use Rattle.reasons.specs.Reasons.{bytesOf, reasons, reasonText}

@@ -1,6 +1,6 @@
 -- The texts as a whole: each refusal's number has one and no other number has, all are printable ASCII, and 80 bytes have room for each.
 use mathlib.Core.Path.{_≡_, refl}
-use mathlib.Core.Bool.{Bool, true, false, cond, not, _&&_, and-eq-true-iff}
+use mathlib.Core.Bool.{Bool, true, cond, not, _&&_, and-eq-true-iff}
 use mathlib.Core.List.{List, [], _∷_}
 use Prim.Native.Nat.{ℕ, zero, suc, _≤_}
 use Prim.Native.String.{String}
@@ -31,7 +31,12 @@ unfoldable pub right : ℕ → List String → Bool
 right k [] = true
 right k (s ∷ texts) = leb (length (bytesOf s)) 80 && (rightText k (bytesOf s) && right (suc k) texts)
 
--- All 29 are so; later numbers have no text (`RowTexts.no-text`).
+-- The numbers 0 to 28 have a place in the list; later ones have no text (`RowTexts.no-text`).
+pub as-many : length reasons ≡ 29
+unfolding reasons
+as-many = refl
+
+-- All of them are so.
 pub all-right : right 0 reasons ≡ true
 unfolding right rightText reasons bytesOf printable
 all-right = refl
