@@ -14,8 +14,11 @@ import sys
 
 WORD = r"[^\s(){}.;,@\"«»\[\]\\]+"
 TOKEN = re.compile(WORD)
+# behind a dot stands a field, or a step that is named after a function
+STEP = re.compile(rf"(\.?)({WORD})")
 # a lemma whose name would fall together with a definition's of the same file gets an ending
-LEMMAS = "allowed-by-label level-word met-word modular-edge modular-vertex open-rows row-text rules-by-label unlabelled-edge"
+LEMMAS = """allowed-by-label far-word from-little held-reply in-shape level-word met-word modular-edge modular-vertex open-rows row-text
+rules-by-label unlabelled-edge"""
 OTHER = {n: n.replace("-", "_") + "_lem" for n in LEMMAS.split()} | {"slice-val": "lent_val"}
 TOP = pathlib.Path("crates")
 
@@ -47,7 +50,7 @@ def declared(path, text):
 def foreign(text):
     """The names that a file takes from the toolchain."""
     out = set()
-    for m in re.finditer(r"(?m)^ *(?:pub |ghost )*use ([^\s{;]+)(?:\.\{([^}]*)\})?", text):
+    for m in re.finditer(r"(?m)^ *(?:pub |ghost )*use ([^\s{;]+?)(?:\.\{([^}]*)\})?;?\s*$", text):
         if m[1].startswith("Rattle.") and m[1].split(".")[1] in OWN:
             if re.match(r"Rattle\.\w+\.specs\.(declared|contracts)", m[1]):
                 out.update(re.findall(WORD, m[2] or ""))
@@ -82,7 +85,7 @@ def main():
         return
     for p, t in texts.items():
         keep = foreign(t)
-        new = TOKEN.sub(lambda m: turn[m[0]] if m[0] in turn and m[0] not in keep else m[0], t)
+        new = STEP.sub(lambda m: m[1] + (m[2] if m[2] not in turn or m[2] in keep else snake(m[2]) if m[1] else turn[m[2]]), t)
         if new != t:
             p.write_text(new, encoding="utf-8")
     for p in files(".edit"):

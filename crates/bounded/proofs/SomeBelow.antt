@@ -1,6 +1,6 @@
 -- Some number below a bound passes a test exactly where one can be named; and what the test has in common for all numbers, or of one alone.
 use mathlib.Core.Path.{◌≡◌, refl, sym, ap₂, ◌∙◌}
-use mathlib.Core.Bool.{Bool, true, false, true≢false, or_true, or-false, and-true, and-false, and-or_distrib_left, ◌&&◌, ◌||◌}
+use mathlib.Core.Bool.{Bool, true, false, true≢false, or-true, or-false, and-true, and-false, and-or_distrib_left, ◌&&◌, ◌||◌}
 use mathlib.Core.Logic.{⊎_elim}
 use Prim.Native.Nat.{ℕ, zero, suc, ◌+◌, ◌<◌}
 use native.Mathlib.Nat.{not-suc-le-zero, le_of_suc-le-suc, le_refl, eq-or-lt_of_le}
@@ -34,7 +34,7 @@ unfolding some_below
 true_some_below zero t k h e = absurd (not-suc-le-zero h)
 true_some_below (suc n) t k h e =
     ⊎_elim
-    (λ (q : k ≡ n). rw (← q, e) (or_true (some_below k t)))
+    (λ (q : k ≡ n). rw (← q, e) (or-true (some_below k t)))
     (λ below. rw (true_some_below n t k below e) refl)
     (eq-or-lt_of_le (le_of_suc-le-suc h))
 

@@ -4,7 +4,7 @@ use mathlib.Core.Logic.{◌↔◌, ◌≢◌, ◌⊎◌, inl, inr, ⊎_elim}
 use mathlib.Core.Bool.{Bool, true, false, not, ◌&&◌, ◌||◌, beq, and-eq-true_iff, true≢false, false≢true}
 use Prim.Native.Nat.{ℕ, ◌≤◌, ◌<◌}
 use lib.Dec.{leb, ltb, eqb}
-use borrow.Author.Tests.{ltb-true, leb-true, eqb-true, eqb-false, not_true, lt-ltb, le-leb, eq-eqb, ne_eqb}
+use borrow.Author.Tests.{ltb-true, leb-true, eqb-true, eqb-false, not-true, lt-ltb, le-leb, eq-eqb, ne_eqb}
 use Rattle.bounded.specs.Below.{all_below}
 use Rattle.bounded.proofs.AllBelow.{all_below_true, true_all_below}
 
@@ -23,7 +23,7 @@ tells_eq a b = (eqb-true a b, eq-eqb a b)
 
 -- Its negation says that they differ.
 pub tells_ne : (a b : ℕ) → Tells (not (eqb a b)) (a ≢ b)
-tells_ne a b = (λ e. eqb-false a b (not_true (eqb a b) e), λ n. rw (ne_eqb a b n) refl)
+tells_ne a b = (λ e. eqb-false a b (not-true (eqb a b) e), λ n. rw (ne_eqb a b n) refl)
 
 -- A test says of itself that it passes.
 pub tells_itself : (a : Bool) → Tells a (a ≡ true)

@@ -1,7 +1,7 @@
 -- The test of a checkpoint's unused bytes at one place, from the tests that the code makes there.
 use mathlib.Core.Path.{◌≡◌, refl, sym}
 use mathlib.Core.Logic.{◌⊎◌, ⊎_elim}
-use mathlib.Core.Bool.{Bool, true, false, cond, ◌&&◌, ◌||◌, and-false, or_true}
+use mathlib.Core.Bool.{Bool, true, false, cond, ◌&&◌, ◌||◌, and-false, or-true}
 use mathlib.Core.List.{List}
 use Prim.Native.Nat.{ℕ, ◌≤◌, ◌<◌, zero-le}
 use lib.Dec.{ltb, eqb}
@@ -17,7 +17,7 @@ with_bytes depth holds path incumbent =
 
 -- the test of one byte: it is used or 0
 before_or_zero : (i used b : ℕ) → (i < used) ⊎ (b ≡ 0) → (ltb i used || eqb b 0) ≡ true
-before_or_zero i used b = ⊎_elim (λ h. rw (lt-ltb i used h)) (λ z. rw (eq-eqb b 0 z) (or_true (ltb i used)))
+before_or_zero i used b = ⊎_elim (λ h. rw (lt-ltb i used h)) (λ z. rw (eq-eqb b 0 z) (or-true (ltb i used)))
 
 -- the bytes of what is held are used up to n, and none where nothing is held
 used_test : (holds : Bool) (n i : ℕ) → (holds && ltb i n) ≡ ltb i (cond holds n 0)

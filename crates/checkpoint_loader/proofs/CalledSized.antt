@@ -75,7 +75,7 @@ module _ (connected : Bool) (P : Problem) (c : Checkpoint) (sized : Sized c) (ca
       → Sized (advance connected P c call.budget call.workspace).checkpoint
   unfolding advance
   advanced_sized sound shape fits =
-      checkpoint_sized c.minimum s (omega (arith, few, in_shape.reached.depth)) (λ h e. omega (arith, few, (in_shape.incumbent_shape h e).full))
+      checkpoint_sized c.minimum s (omega (arith, few, in_shape_lem.reached.depth)) (λ h e. omega (arith, few, (in_shape_lem.incumbent_shape h e).full))
       (steps_fit c.finished refl fits)
     where
       s : State
@@ -84,8 +84,8 @@ module _ (connected : Bool) (P : Problem) (c : Checkpoint) (sized : Sized c) (ca
       few : P.old.order ≤ 64
       few = sound.old_sound.order_max
 
-      in_shape : Shape (search_of connected P) c.minimum s
-      in_shape = visits_shape _ _ call.budget _ (state_in_shape connected P sound c sized.path_long shape)
+      in_shape_lem : Shape (search_of connected P) c.minimum s
+      in_shape_lem = visits_shape _ _ call.budget _ (state_in_shape connected P sound c sized.path_long shape)
 
   -- A call leaves such a checkpoint.
   pub called_sized : Sized (called connected P c call).checkpoint
@@ -97,8 +97,8 @@ module _ (connected : Bool) (P : Problem) (c : Checkpoint) (sized : Sized c) (ca
 
   -- It is in shape again.
   pub called_in_shape : InShape connected P c → InShape connected P (called connected P c call).checkpoint
-  called_in_shape in_shape = go (call_ways connected P c call.budget call.workspace)
+  called_in_shape in_shape_lem = go (call_ways connected P c call.budget call.workspace)
     where
       go : CallWays connected P c call.budget call.workspace → InShape connected P (called connected P c call).checkpoint
-      go (refuses number e) = rw e in_shape
+      go (refuses number e) = rw e in_shape_lem
       go (accepts t) = rw t.advances (advance_in_shape connected P t.sound c sized.path_long t.shape call.budget call.workspace)

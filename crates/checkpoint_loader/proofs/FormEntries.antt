@@ -7,7 +7,7 @@ use Prim.Native.Nat.{ℕ, zero, suc, ◌+◌, ◌-◌, ◌≤◌, ◌<◌}
 use native.Mathlib.Omega.{arith}
 use lib.Dec.{eqb, ltb}
 use lib.ListN.{length}
-use borrow.Author.Tests.{eqb-true, ltb-true, lt-ltb, le-ltb, ltb-false, not_true}
+use borrow.Author.Tests.{eqb-true, ltb-true, lt-ltb, le-ltb, ltb-false, not-true}
 use Rattle.checkpoint_loader.specs.declared.form.Stage.{Stage}
 use Rattle.checkpoint_loader.specs.declared.form.Stage.TheVariants.{Path, PathByte, Incumbent, IncumbentByte, Done}
 use Rattle.checkpoint_loader.specs.Form.{stage_if, or_stage, next}
@@ -62,7 +62,7 @@ module _ (n : ℕ) where
 
   -- where no mapping is due, it has no entry
   none_incumbent : (holds : Bool) → not (holds && ltb 0 n) ≡ true → cond holds n 0 ≡ 0
-  none_incumbent true e = omega (arith, ltb-false 0 n (not_true _ e))
+  none_incumbent true e = omega (arith, ltb-false 0 n (not-true _ e))
   none_incumbent false e = refl
 
   -- the byte after k path entries decides which

@@ -8,7 +8,7 @@ use native.Mathlib.Omega.{arith}
 use lib.ListN.{length, get_or, take, drop, replicate, length-append, get_or-append}
 use lib.Seq.{take_at}
 use Rattle.little_endian.specs.LittleEndian.{little_endian, from_little}
-use Rattle.little_endian.proofs.LittleEndian.{little_back, from_little}
+use Rattle.little_endian.proofs.LittleEndian.{little_back, from_little_lem}
 use Rattle.problem.specs.Problem.{Problem}
 use Rattle.checkpoint.specs.declared.Checkpoint.{Checkpoint}
 use Rattle.checkpoint.specs.Checkpoints.{padded, InShape}
@@ -99,7 +99,7 @@ module _ {n : ℕ} {bytes : List ℕ} (small : Bytes bytes) (f : Formed n bytes)
       rw same at (small (suc (suc (suc i))) inside)
 
   steps_back : little_endian 8 (from_little f.steps) ≡ f.steps
-  steps_back = ap (λ (k : ℕ). little_endian k (from_little f.steps)) (sym f.steps_length) ∙ from_little f.steps steps_small
+  steps_back = ap (λ (k : ℕ). little_endian k (from_little f.steps)) (sym f.steps_length) ∙ from_little_lem f.steps steps_small
 
   -- The checkpoint that bytes in the form say has these bytes.
   formed_back : checkpoint_bytes n (says_formed f) ≡ bytes

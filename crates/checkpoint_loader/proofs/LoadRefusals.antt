@@ -16,9 +16,9 @@ use Rattle.checkpoint_loader.specs.Loading.{Loading, said, refuse, on_shape, loa
 abbrev shaped : Bool → Checkpoint → Loading
 shaped b c = cond b (record { answer = passed; checkpoint = c }) (refuse (refused 14))
 
-in_shape : (b : Bool) (c : Checkpoint) → cond b passed (refused 14) ≡ passed → record { answer = passed; checkpoint = c } ≡ shaped b c
-in_shape true c e = refl
-in_shape false c e = absurd (true≢false (cc))
+in_shape_lem : (b : Bool) (c : Checkpoint) → cond b passed (refused 14) ≡ passed → record { answer = passed; checkpoint = c } ≡ shaped b c
+in_shape_lem true c e = refl
+in_shape_lem false c e = absurd (true≢false (cc))
 
 out_of_shape : (b : Bool) (c : Checkpoint) (m : ℕ) → cond b passed (refused 14) ≡ refused m → refuse (refused m) ≡ shaped b c
 out_of_shape true c m e = absurd (true≢false (cc))
@@ -45,7 +45,7 @@ module _ (connected : Bool) (P : Problem) (bytes : List ℕ) where
       -- The checkpoint that the bytes say is loaded where its check passes.
       pub load_passed : checkpoint_answer connected P c ≡ passed → record { answer = passed; checkpoint = c } ≡ loading connected P bytes
       unfolding checkpoint_answer
-      load_passed e = in_shape (in_shape connected P c) c (rw sound at e) ∙ sym shape_decides
+      load_passed e = in_shape_lem (in_shape connected P c) c (rw sound at e) ∙ sym shape_decides
 
       -- It is refused where its check refuses it.
       pub load_refused : (m : ℕ) → checkpoint_answer connected P c ≡ refused m → refuse (refused m) ≡ loading connected P bytes

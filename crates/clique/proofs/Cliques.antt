@@ -8,7 +8,7 @@ use native.Mathlib.Decide.{ℕ_discrete}
 use native.Mathlib.Omega.{arith}
 use lib.Dec.{ltb, eqb}
 use lib.ListN.{length, get_or}
-use borrow.Author.Tests.{lt-ltb, ltb-true, ne_eqb, eqb-false, not_true}
+use borrow.Author.Tests.{lt-ltb, ltb-true, ne_eqb, eqb-false, not-true}
 use Rattle.problem.specs.Problem.{Problem, SoundProblem, compare_edges, allowed, consistent}
 use Rattle.problem.proofs.Consistent.{allowed_facts, facts_allowed, facts_consistent}
 use Rattle.mapping.specs.Common.{Common, unmapped, size, x, y}
@@ -35,7 +35,7 @@ use Rattle.clique.proofs.PairLists.{
 apart_facts : (p q : Pair) → apart p q ≡ true → (p.old ≢ q.old) × (p.new ≢ q.new)
 apart_facts p q e =
     let both = (and-eq-true_iff (not (eqb p.old q.old)) (not (eqb p.new q.new))).0 e in
-    (eqb-false p.old q.old (not_true (eqb p.old q.old) both.0), eqb-false p.new q.new (not_true (eqb p.new q.new) both.1))
+    (eqb-false p.old q.old (not-true (eqb p.old q.old) both.0), eqb-false p.new q.new (not-true (eqb p.new q.new) both.1))
 
 module _ (P : Problem) where
   -- A vertex is an old vertex with a new one on which it may lie.

@@ -43,21 +43,21 @@ from_little_max (b ∷ bytes) each =
     next_byte_fits (length bytes) (from_little bytes) b (from_little_max bytes (λ i h. each (suc i) (omega arith))) (each 0 (omega arith))
 
 -- Bytes are the bytes of their number.
-pub from_little : (bytes : List ℕ) → ((i : ℕ) → i < length bytes → get_or bytes i 0 < 256) → little_endian (length bytes) (from_little bytes) ≡ bytes
+pub from_little_lem : (bytes : List ℕ) → ((i : ℕ) → i < length bytes → get_or bytes i 0 < 256) → little_endian (length bytes) (from_little bytes) ≡ bytes
 unfolding little_endian from_little
-from_little [] each = refl
-from_little (b ∷ bytes) each =
+from_little_lem [] each = refl
+from_little_lem (b ∷ bytes) each =
     let small : b < 256 = each 0 (omega arith) in
     let low : (b + 256 * from_little bytes) % 256 ≡ b = add-mul-mod_self_left b 256 (from_little bytes) ∙ mod-eq_of_lt small in
     let high : (b + 256 * from_little bytes) / 256 ≡ from_little bytes =
     omega (arith, add-mul-div_left b (from_little bytes) {y = 256} (omega arith), div-eq_of_lt small) in
-    ap₂ ◌∷◌ low (ap (little_endian (length bytes)) high ∙ from_little bytes (λ i h. each (suc i) (omega arith)))
+    ap₂ ◌∷◌ low (ap (little_endian (length bytes)) high ∙ from_little_lem bytes (λ i h. each (suc i) (omega arith)))
 
 -- Two runs of bytes, equally many, that say one number are the same.
 pub from_little_injective : (xs ys : List ℕ) → length xs ≡ length ys
     → ((i : ℕ) → i < length xs → get_or xs i 0 < 256) → ((i : ℕ) → i < length ys → get_or ys i 0 < 256)
     → from_little xs ≡ from_little ys → xs ≡ ys
-from_little_injective xs ys long each-x each-y e = sym (from_little xs each-x) ∙ ap₂ little_endian long e ∙ from_little ys each-y
+from_little_injective xs ys long each-x each-y e = sym (from_little_lem xs each-x) ∙ ap₂ little_endian long e ∙ from_little_lem ys each-y
 
 -- The number of the bytes from i on, by the byte at i and the number of those after it.
 from_next : (bytes : List ℕ) (i : ℕ) → from_little (drop i bytes) ≡ get_or bytes i 0 + 256 * from_little (drop (suc i) bytes)

@@ -4,7 +4,7 @@ use mathlib.Core.Logic.{◌≢◌}
 use mathlib.Core.Bool.{Bool, true, false, not, ◌&&◌, and-eq-true_iff}
 use Prim.Native.Nat.{ℕ, ◌<◌}
 use lib.Dec.{ltb, eqb}
-use borrow.Author.Tests.{lt-ltb, ltb-true, ne_eqb, eqb-true, eqb-false, not_true}
+use borrow.Author.Tests.{lt-ltb, ltb-true, ne_eqb, eqb-true, eqb-false, not-true}
 use Rattle.graph.specs.Graph.{edge}
 use Rattle.problem.specs.Problem.{Problem, SoundProblem, compare_vertices, compare_edges, allowed, consistent}
 
@@ -41,7 +41,7 @@ module _ (P : Problem) where
   unfolding consistent
   consistent_facts v w v' w' e =
       let both = (and-eq-true_iff (not (eqb w w')) (compare_edges P v v' w w')).0 e in
-      (eqb-false w w' (not_true (eqb w w') both.0), both.1)
+      (eqb-false w w' (not-true (eqb w w') both.0), both.1)
 
   -- Where their partners are two and the edges agree, two mapped rows may stand together.
   pub facts_consistent : (v w v' w' : ℕ) → w ≢ w' → compare_edges P v v' w w' ≡ true → consistent P v w v' w' ≡ true

@@ -70,9 +70,9 @@ module _ (P : Problem) (minimum : ℕ) (r : Branched) (called : called_of r ≡ 
     pub found_long : P.old.order ≤ length r.mapping
     found_long = omega (arith, held_length, length-take P.old.order r.mapping)
 
-    held_reply : (mapping : List ℕ) → held_reply (some entries) mapping ≡ branch_reply P minimum mapping
+    held_reply_lem : (mapping : List ℕ) → held_reply (some entries) mapping ≡ branch_reply P minimum mapping
     unfolding branch_reply
-    held_reply mapping =
+    held_reply_lem mapping =
         ap (λ (held : Option (List ℕ)). held_reply held mapping) (sym found_held.1)
         ∙ ap (λ (a : Answer). reply_on a (branch P minimum) mapping) (sym found_held.0)
 
@@ -81,7 +81,7 @@ module _ (P : Problem) (minimum : ℕ) (r : Branched) (called : called_of r ≡ 
     branch_short mapping short =
         let e : length mapping < length entries = omega (arith, held_length) in
         ap (by_room mapping) (sym (lt-leb _ _ e))
-        ∙ held_reply mapping
+        ∙ held_reply_lem mapping
 
     -- One that fits is stored and counted.
     pub branch_stored : (mapping : List ℕ) → P.old.order ≤ length mapping → (count : ℕ) (after : List ℕ)
@@ -91,7 +91,7 @@ module _ (P : Problem) (minimum : ℕ) (r : Branched) (called : called_of r ≡ 
         ap (λ (n : ℕ). clique_reply (reply 0 1) n after) counted
         ∙ ap (clique_reply (reply 0 1) (size entries)) stored
         ∙ ap (by_room mapping) (sym (le-leb _ _ e))
-        ∙ held_reply mapping
+        ∙ held_reply_lem mapping
 
   -- the arm `_`: 1 to 3 are the tags of the answers that hold nothing
   off_held : (a : CliqueAnswer) → OneOf (1 ∷ 2 ∷ 3 ∷ []) (tag_of clique-tags.the_type a) → clique_answer_of a ≡ accepted 1 → ⊥

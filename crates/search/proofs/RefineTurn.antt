@@ -56,10 +56,10 @@ module _ (edges masks : List ℕ) (row pairs value : ℕ) (ws : List ℕ) {s : �
       same r h (no before) = rw (le-ltb row r (omega arith), open_is r h, lt-leb (row + 1) r (omega arith)) refl
 
   -- A row of the set that is not met first has the mask of null edges.
-  pub far_word : (ws' : List ℕ) (first : ℕ) {near far mask : ℕ} → Covers edges row first → near ≡ meet_of s first → Parts s near far
+  pub far_word_lem : (ws' : List ℕ) (first : ℕ) {near far mask : ℕ} → Covers edges row first → near ≡ meet_of s first → Parts s near far
       → mask ≡ get_or masks (256 * value) 0 → (m : ℕ) → m < 64 → member far m ≡ true → get_or ws' (64 * pairs + m) 0 ≡ get_or ws (64 * pairs + m) 0
       → far_word mask pairs ws' m ≡ near_word edges masks row pairs value ws m
-  far_word ws' first {near} {far} {mask} covers near-is parts mask_is m h own same =
+  far_word_lem ws' first {near} {far} {mask} covers near-is parts mask_is m h own same =
       let both = (and-eq-true_iff (member s m) (not (member near m))).0 (sym (parts.rest m h) ∙ own) in
       let later = ((and-eq-true_iff (leb (row + 1) m) (member (open_set pairs ws) m)).0 (sym (open_is m h) ∙ both.0)).0 in
       let null = covers m (omega (arith, leb-true (row + 1) m later)) h (not_first both.0 both.1) in

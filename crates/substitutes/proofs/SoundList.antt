@@ -7,7 +7,7 @@ use native.Mathlib.Nat.{not-suc-le-zero}
 use native.Mathlib.Omega.{arith}
 use lib.Dec.{eqb, leb}
 use lib.ListN.{length}
-use borrow.Author.Tests.{eq-eqb, eqb-true, ne_eqb, eqb-false, le-leb, leb-true, not_true}
+use borrow.Author.Tests.{eq-eqb, eqb-true, ne_eqb, eqb-false, le-leb, leb-true, not-true}
 use Rattle.bounded.specs.Below.{all_below}
 use Rattle.bounded.proofs.AllBelow.{all_below_true, true_all_below}
 use Rattle.answers.specs.Answer.{passed, refused}
@@ -45,7 +45,7 @@ passes_sound_list list e =
       length_max = leb-true _ _ fits.1;
       labelled = λ k h.
           let sound = (and-eq-true_iff (not (eqb (old_label list k) 0)) (not (eqb (new_label list k) 0))).0 (all_below_true (pairs list) (pair_sound list) both.1 k h) in
-          (some (eqb-false (old_label list k) 0 (not_true _ sound.0)), some (eqb-false (new_label list k) 0 (not_true _ sound.1)));
+          (some (eqb-false (old_label list k) 0 (not-true _ sound.0)), some (eqb-false (new_label list k) 0 (not-true _ sound.1)));
     }
   where
     some : {a : ℕ} → (a ≡ 0 → ⊥) → 1 ≤ a

@@ -6,7 +6,7 @@ use native.Mathlib.Omega.{arith}
 use lib.ListN.{length, take}
 use lib.Seq.{length-take-le}
 use borrow.Author.Rules.{rules}
-use borrow.Author.Tests.{not_true, not_false}
+use borrow.Author.Tests.{not-true, not-false}
 use Rattle.answers.specs.Answer.{passed, refused}
 use Rattle.problem.specs.Problem.{Problem}
 use Rattle.problem.specs.Lent.{lent}
@@ -94,7 +94,7 @@ decided c admitted is =
 
 returns : tie.Need-returns
 returns c =
-    sym (decided c.before _ refl ∙ ap (λ (t : Bool). cond (t && admits c.before) passed (refused 14)) (not_true c.before.in_shape.result c.if1.true))
+    sym (decided c.before _ refl ∙ ap (λ (t : Bool). cond (t && admits c.before) passed (refused 14)) (not-true c.before.in_shape.result c.if1.true))
 
 array-copy-out-held-admitted : tie.Need-array-copy-out-held-admitted
 array-copy-out-held-admitted c = search rules
@@ -109,11 +109,11 @@ settled : (c : tie.After-held-admitted) (t : Bool) → c.held-admitted.result �
 settled c t is =
     let shaped = c.before.before.before in
     decided shaped c.held-admitted.result c.held-admitted.ensures
-    ∙ ap (λ (b : Bool). cond (b && c.held-admitted.result) passed (refused 14)) (not_false shaped.in_shape.result c.before.before.if1.false)
+    ∙ ap (λ (b : Bool). cond (b && c.held-admitted.result) passed (refused 14)) (not-false shaped.in_shape.result c.before.before.if1.false)
     ∙ ap (λ (b : Bool). cond b passed (refused 14)) is
 
 returns_2 : tie.Need-returns-2
-returns_2 c = sym (settled c.before _ (not_true c.before.held-admitted.result c.if2.true))
+returns_2 c = sym (settled c.before _ (not-true c.before.held-admitted.result c.if2.true))
 
 returns-3 : tie.Need-returns-3
 returns-3 c =
@@ -122,7 +122,7 @@ returns-3 c =
     flawed_answer _ _ start.args.checkpoint _ _ _ (sym (ap mappings_outcome c.before.flaw.given.1) ∙ call.check-mappings.ensures)
 
 returns-4 : tie.Need-returns-4
-returns-4 c = sym (settled c.before _ (not_false c.before.held-admitted.result c.if2.false))
+returns-4 c = sym (settled c.before _ (not-false c.before.held-admitted.result c.if2.false))
 
 pub check_checkpoint_spec : {M : Type 1} → statement M
 check_checkpoint_spec =

@@ -6,7 +6,7 @@ use Prim.Native.Nat.{◌+◌, ◌≤◌, ◌<◌, ◌^◌}
 use native.Mathlib.Omega.{arith}
 use lib.ListN.{length-map}
 use borrow.Author.Rules.{rules}
-use borrow.Author.Tests.{not_true, not_false}
+use borrow.Author.Tests.{not-true, not-false}
 use Rattle.problem.specs.Lent.{lent}
 use Rattle.descend.proofs.OneSearch.{Exhausted, exhausted_facts}
 use Rattle.descend.proofs.LoopTurn.{fresh_minimum, Going, going_all, turn_steps, turn_refused, turn_accepted, turn_minimum, turn_ends, turn_renews}
@@ -40,7 +40,7 @@ steps c = turn_steps (at_head c).loop.invariant c.search.result _ c.search.ensur
 
 -- a turn that goes on: its search is exhausted, so the minimum is above the floor
 goes_on : (c : tie.Else1 invariant-loop decreases-loop) → c.before.is-exhausted.result ≡ true
-goes_on c = not_false c.before.is-exhausted.result c.if1.false
+goes_on c = not-false c.before.is-exhausted.result c.if1.false
 
 above : (c : tie.Else1 invariant-loop decreases-loop)
     → let reached = (at_turn (at-arm c.before)).search.result.checkpoint in
@@ -90,7 +90,7 @@ returns c =
     let test = c.before.before in
     let arm = at-arm test in
     let turn = at_turn arm in
-    let off = sym test.is-exhausted.ensures ∙ not_true test.is-exhausted.result c.before.if1.true in
+    let off = sym test.is-exhausted.ensures ∙ not-true test.is-exhausted.result c.before.if1.true in
     turn_ends (at_head turn).loop.inv turn.search.result _ turn.search.ensures _ arm.answer.given.1 off _ c.lowered.ensures
 
 sub-fresh : tie.Need-overflow-sub-fresh invariant-loop decreases-loop

@@ -1,7 +1,7 @@
 -- `problem::check_problem` meets its contract: at each return the answers that led there say what `problemAnswer` computes to.
 -- Assumes nothing.
 use borrow.Author.Rules.{rules}
-use borrow.Author.Tests.{not_true, not_false}
+use borrow.Author.Tests.{not-true, not-false}
 use mathlib.Core.Path.{◌≡◌, ap, sym, ◌∙◌}
 use mathlib.Core.Bool.{true}
 use Rattle.answers.specs.Answer.{passed}
@@ -20,7 +20,7 @@ asked c =
 
 -- both graphs' tables fit and the old graph is sound, where the new graph is asked about
 told_fit : (c : tie.After-enum-told) → both_fit (asked c) ≡ true
-told_fit c = let r = c.before.before.before in sym r.before.both-fit.ensures ∙ not_false _ r.if1.false
+told_fit c = let r = c.before.before.before in sym r.before.both-fit.ensures ∙ not-false _ r.if1.false
 
 told_old : (c : tie.After-enum-told) → soundness (asked c).old ≡ passed
 told_old c = sym c.before.before.check-at.ensures ∙ ap problem_answer_of c.enum_told.given.1
@@ -30,7 +30,7 @@ both-fit-requires c κs = search rules
 
 returns : tie.Need-returns
 unfolding problem_answer
-returns c = simp (sym c.before.both-fit.ensures ∙ not_true _ c.if1.true)
+returns c = simp (sym c.before.both-fit.ensures ∙ not-true _ c.if1.true)
 
 check-at-requires : tie.Need-check-at-requires
 check-at-requires c κs = search rules
@@ -43,7 +43,7 @@ unfolding problem_answer
 returns_2 c =
     let r = c.before.before.before in
     simp (
-      sym r.before.before.both-fit.ensures ∙ not_false _ r.before.if1.false,
+      sym r.before.before.both-fit.ensures ∙ not-false _ r.before.if1.false,
       sym r.check-at.ensures ∙ ap problem_answer_of c.before.flaw.given.1,
     )
 

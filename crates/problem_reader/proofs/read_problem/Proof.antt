@@ -3,7 +3,7 @@
 use mathlib.Core.Path.{◌≡◌, sym, ◌∙◌}
 use mathlib.Core.Bool.{true}
 use borrow.Author.Rules.{rules}
-use borrow.Author.Tests.{not_true, not_false}
+use borrow.Author.Tests.{not-true, not-false}
 use Rattle.graph.specs.Soundness.{tables_fit}
 use Rattle.problem_reader.proofs.Readings.{old_unfit, new_unfit, orders_read, new_refused, old_refused}
 use Rattle.problem_reader.proofs.read_problem.Statement.{statement}
@@ -30,10 +30,10 @@ new-call a = a.before.before.before.before
 
 -- both graphs' tables fit where they are read
 old_fits : (c : tie.Else1) → let a = (at_entry (at-old-fit c)).args in tables_fit 0 a.old-labels.now a.old-edges.now ≡ true
-old_fits c = sym (at-old-fit c).tables-fit.ensures ∙ not_false _ c.if1.false
+old_fits c = sym (at-old-fit c).tables-fit.ensures ∙ not-false _ c.if1.false
 
 new_fits : (c : tie.Else2) → let a = (at_entry (at-old-fit (at-new-fit c))).args in tables_fit 0 a.new-labels.now a.new-edges.now ≡ true
-new_fits c = sym c.before.tables-fit2.ensures ∙ not_false _ c.if2.false
+new_fits c = sym c.before.tables-fit2.ensures ∙ not-false _ c.if2.false
 
 tables-fit-requires : tie.Need-tables-fit-requires
 tables-fit-requires c κs = search rules
@@ -45,7 +45,7 @@ same_length_2 : tie.Need-same-length-2
 same_length_2 c = search rules
 
 returns : tie.Need-returns
-returns c = old_unfit _ _ _ _ _ _ (sym c.before.tables-fit.ensures ∙ not_true _ c.if1.true)
+returns c = old_unfit _ _ _ _ _ _ (sym c.before.tables-fit.ensures ∙ not-true _ c.if1.true)
 
 tables-fit-requires-2 : tie.Need-tables-fit-requires-2
 tables-fit-requires-2 c κs = search rules
@@ -65,7 +65,7 @@ same-length-6 c = search rules
 returns_2 : tie.Need-returns-2
 returns_2 c =
     new_unfit _ _ _ _ _ _ (old_fits c.before.before.before.before)
-    (sym c.before.tables-fit2.ensures ∙ not_true _ c.if2.true)
+    (sym c.before.tables-fit2.ensures ∙ not-true _ c.if2.true)
 
 read-graph-requires : tie.Need-read-graph-requires
 read-graph-requires c κs = search rules

@@ -4,7 +4,7 @@ use mathlib.Core.Path.{◌≡◌, sym, ap, ◌∙◌}
 use mathlib.Core.Bool.{true}
 use lib.Seq.{length-take-le}
 use borrow.Author.Rules.{rules}
-use borrow.Author.Tests.{not_true, not_false}
+use borrow.Author.Tests.{not-true, not-false}
 use denote.Floats.{passes}
 use Rattle.answers.specs.Answer.{passed}
 use Rattle.problem.specs.Problem.{Problem}
@@ -34,7 +34,7 @@ told_passed : (c : tie.After-enum-told2) → let s = at_entry c in checkpoint_an
 told_passed c = sym c.before.before.check-checkpoint.ensures ∙ ap shape_answer c.enum-told2.given.1
 
 told_count : (c : tie.Else2) → let a = (at_entry (at_told c)).args in count_fits a.checkpoint a.budget ≡ true
-told_count c = sym c.before.count_fits.ensures ∙ not_false c.before.count_fits.result c.if2.false
+told_count c = sym c.before.count_fits.ensures ∙ not-false c.before.count_fits.result c.if2.false
 
 check-checkpoint-requires : tie.Need-check-checkpoint-requires
 check-checkpoint-requires c κs = search rules
@@ -63,7 +63,7 @@ returns_2 c =
     let s = at_entry told in
     let a = s.args in
     call_count a.connected (asked s) a.checkpoint a.budget a.workspace.now (told_passed told) c.before.before.if1.false
-    (sym c.before.count_fits.ensures ∙ not_true c.before.count_fits.result c.if2.true)
+    (sym c.before.count_fits.ensures ∙ not-true c.before.count_fits.result c.if2.true)
 
 slice-relend-prefix-advance : tie.Need-slice-relend-prefix-advance
 slice-relend-prefix-advance c = search rules

@@ -1,7 +1,7 @@
 -- `substitutes::check_substitutes` meets its contract: at each return the tests that led there say what `substitutesAnswer` computes to.
 -- Assumes nothing.
 use borrow.Author.Rules.{rules}
-use borrow.Author.Tests.{eq-eqb, ne_eqb, le-leb, lt-leb, not_true, not_false}
+use borrow.Author.Tests.{eq-eqb, ne_eqb, le-leb, lt-leb, not-true, not-false}
 use mathlib.Core.Path.{sym, ◌∙◌}
 use Rattle.substitutes.specs.Soundness.{substitutes_answer}
 use Rattle.substitutes.proofs.check_substitutes.Statement.{statement}
@@ -22,13 +22,13 @@ returns-3 : tie.Need-returns-3
 unfolding substitutes_answer
 returns-3 c =
     let long = c.before.before in
-    simp (eq-eqb _ _ long.before.if1.false, le-leb _ _ long.if2.false, sym c.before.labels-sound.ensures ∙ not_true _ c.if3.true)
+    simp (eq-eqb _ _ long.before.if1.false, le-leb _ _ long.if2.false, sym c.before.labels-sound.ensures ∙ not-true _ c.if3.true)
 
 returns-4 : tie.Need-returns-4
 unfolding substitutes_answer
 returns-4 c =
     let long = c.before.before in
-    simp (eq-eqb _ _ long.before.if1.false, le-leb _ _ long.if2.false, sym c.before.labels-sound.ensures ∙ not_false _ c.if3.false)
+    simp (eq-eqb _ _ long.before.if1.false, le-leb _ _ long.if2.false, sym c.before.labels-sound.ensures ∙ not-false _ c.if3.false)
 
 pub check_substitutes_spec : {M : Type 1} → statement M
 check_substitutes_spec = tie.close (tie.spec returns returns_2 labels-sound-requires returns-3 returns-4)

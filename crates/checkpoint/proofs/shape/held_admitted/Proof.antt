@@ -3,7 +3,7 @@ use mathlib.Core.Path.{sym}
 use native.Mathlib.Omega.{arith}
 use lib.Seq.{length-take-le}
 use borrow.Author.Rules.{rules}
-use borrow.Author.Tests.{not_false}
+use borrow.Author.Tests.{not-false}
 use Rattle.checkpoint.proofs.shape.held_admitted.Statement.{statement}
 use Rattle.checkpoint.proofs.shape.held_admitted.Tie as tie
 
@@ -28,7 +28,7 @@ returns-3 : tie.Need-returns-3
 returns-3 c =
     let tested = c.before.before.before in
     let args = tested.before.before.before.args in
-    rw (not_false args.checkpoint.holds tested.before.if1.false, not_false args.connected tested.if2.false) c.is_connected.ensures
+    rw (not-false args.checkpoint.holds tested.before.if1.false, not-false args.connected tested.if2.false) c.is_connected.ensures
 
 pub held_admitted_spec : {M : Type 1} → statement M
 held_admitted_spec =

@@ -3,16 +3,16 @@
 use mathlib.Core.Path.{◌≡◌, sym, ◌∙◌}
 use mathlib.Core.Bool.{Bool, true, false, not}
 use borrow.Author.Rules.{rules}
-use borrow.Author.Tests.{le-leb, lt-leb, not_true, not_false}
+use borrow.Author.Tests.{le-leb, lt-leb, not-true, not-false}
 use Rattle.checkpoint.proofs.shape.in_shape.Statement.{statement}
 use Rattle.checkpoint.proofs.shape.in_shape.Tie as tie
 
 -- what a branch on a call's result says of the test that the call computes
 failed : (r : Bool) {test : Bool} → r ≡ test → not r ≡ true → test ≡ false
-failed r e taken = sym e ∙ not_true r taken
+failed r e taken = sym e ∙ not-true r taken
 
 passed : (r : Bool) {test : Bool} → r ≡ test → not r ≡ false → test ≡ true
-passed r e left = sym e ∙ not_false r left
+passed r e left = sym e ∙ not-false r left
 
 returns : tie.Need-returns
 returns c = rw (lt-leb _ _ c.if1.true)

@@ -6,7 +6,7 @@ use Prim.Native.Nat.{ℕ}
 use denote.Enum.Declared.{tag_of}
 use types.Run.{OneOf, miss}
 use borrow.Author.Rules.{rules}
-use borrow.Author.Tests.{not_false}
+use borrow.Author.Tests.{not-false}
 use Rattle.mapping.specs.Answers.{mapping_outcome}
 use Rattle.mapping.specs.declared.MappingAnswer.{MappingAnswer}
 use Rattle.mapping.specs.contracts.MappingAnswer.{the_type}
@@ -33,12 +33,12 @@ enum-known-answer c = search rules
 returns_2 : tie.Need-returns-2
 returns_2 c =
     let asked = c.before.before.before in
-    simp (not_false asked.before.args.asked asked.if1.false, ap mapping_outcome c.before.answer.given.1)
+    simp (not-false asked.before.args.asked asked.if1.false, ap mapping_outcome c.before.answer.given.1)
 
 returns-3 : tie.Need-returns-3
 returns-3 c =
     let a = c.before.before.args in
-    simp (not_false a.asked c.before.if1.false, refused_answer a.minimum a.answer c.match.keys2)
+    simp (not-false a.asked c.before.if1.false, refused_answer a.minimum a.answer c.match.keys2)
 
 pub reaches_spec : {M : Type 1} → statement M
 reaches_spec = tie.close (tie.spec returns enum-known-answer returns_2 returns-3)

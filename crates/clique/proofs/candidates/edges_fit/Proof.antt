@@ -3,7 +3,7 @@
 use borrow.Author.Rules.{rules}
 use mathlib.Core.Path.{sym, ◌∙◌}
 use Prim.Native.Nat.{◌-◌}
-use borrow.Author.Tests.{not_true, not_false}
+use borrow.Author.Tests.{not-true, not-false}
 use Rattle.bounded.proofs.AllBelow.{PassedTo, passed_none, passed_more, passed_all, false_all_below}
 use Rattle.clique.specs.LentRules.{edge_fits}
 use Rattle.clique.proofs.candidates.edges_fit.Statement.{statement}
@@ -29,7 +29,7 @@ edge-fits-requires c κs =
 returns : tie.Need-returns invariant-loop decreases-loop
 returns c =
     let r = c.before in
-    sym (false_all_below _ _ r.before.before.loop.i r.before.loop-test.true (sym r.edge-fits.ensures ∙ not_true _ c.if1.true))
+    sym (false_all_below _ _ r.before.before.loop.i r.before.loop-test.true (sym r.edge-fits.ensures ∙ not-true _ c.if1.true))
 
 add-i : tie.Need-overflow-add-i invariant-loop decreases-loop
 add-i c = search rules
@@ -40,7 +40,7 @@ loop-less c = search rules
 loop-again : tie.Need-loop-preserved invariant-loop decreases-loop
 loop-again c =
     let r = c.before in
-    passed_more _ _ _ r.before.loop-test.true r.before.before.loop.invariant (sym r.edge-fits.ensures ∙ not_false _ c.if1.false)
+    passed_more _ _ _ r.before.loop-test.true r.before.before.loop.invariant (sym r.edge-fits.ensures ∙ not-false _ c.if1.false)
 
 returns_2 : tie.Need-returns-2 invariant-loop decreases-loop
 returns_2 c = sym (passed_all _ _ _ c.loop-test.false c.before.loop.invariant)

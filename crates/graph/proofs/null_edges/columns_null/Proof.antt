@@ -1,7 +1,7 @@
 -- `graph::null_edges::columns_null` meets its contract: the columns are null where those before the next multiple of eight and those from it
 -- on are.
 -- Assumes nothing.
-use borrow.Author.Tests.{not_true, not_false}
+use borrow.Author.Tests.{not-true, not-false}
 use native.Mathlib.Omega.{arith}
 use Rattle.graph.proofs.Runs.{run_fails, run_rest}
 use borrow.Author.Rules.{rules}
@@ -27,7 +27,7 @@ bytes-null-requires : tie.Need-bytes-null-requires
 bytes-null-requires c κs = search rules
 
 returns : tie.Need-returns
-returns c = run_fails _ _ _ _ _ c.before.bytes-null.ensures (not_true _ c.if1.true) (omega arith) (omega arith)
+returns c = run_fails _ _ _ _ _ c.before.bytes-null.ensures (not-true _ c.if1.true) (omega arith) (omega arith)
 
 add-words-null : tie.Need-overflow-add-words-null
 add-words-null c = search rules
@@ -39,7 +39,7 @@ words-null-requires : tie.Need-words-null-requires
 words-null-requires c κs = search rules
 
 returns_2 : tie.Need-returns-2
-returns_2 c = run_rest _ _ _ _ (omega arith) (c.before.before.bytes-null.ensures.0 (not_false _ c.before.if1.false)) c.words-null.ensures
+returns_2 c = run_rest _ _ _ _ (omega arith) (c.before.before.bytes-null.ensures.0 (not-false _ c.before.if1.false)) c.words-null.ensures
 
 pub columns_null_spec : {M : Type 1} → statement M
 columns_null_spec =

@@ -1,7 +1,7 @@
 -- `graph::null_edges::words_null` meets its contract: the words tested so far are 0.
 -- Assumes nothing.
 use borrow.Author.Rules.{rules}
-use borrow.Author.Tests.{not_true, not_false}
+use borrow.Author.Tests.{not-true, not-false}
 use mathlib.Core.Path.{◌≡◌}
 use Prim.Native.Nat.{◌-◌, ◌%◌, ◌≤◌}
 use native.Mathlib.Omega.{arith}
@@ -24,7 +24,7 @@ eight-null-requires : tie.Need-eight-null-requires invariant-loop decreases-loop
 eight-null-requires c κs = search rules
 
 returns : tie.Need-returns invariant-loop decreases-loop
-returns c = run_fails _ _ _ _ _ c.before.eight_null.ensures (not_true _ c.if1.true) (omega arith) (omega arith)
+returns c = run_fails _ _ _ _ _ c.before.eight_null.ensures (not-true _ c.if1.true) (omega arith) (omega arith)
 
 add-place : tie.Need-overflow-add-place invariant-loop decreases-loop
 add-place c = search rules
@@ -35,7 +35,7 @@ loop-less c = search rules
 loop-again : tie.Need-loop-preserved invariant-loop decreases-loop
 loop-again c =
     let r = c.before in
-    (omega arith, omega arith, run_join _ _ _ _ r.before.before.loop.invariant.2 (r.eight_null.ensures.0 (not_false _ c.if1.false)))
+    (omega arith, omega arith, run_join _ _ _ _ r.before.before.loop.invariant.2 (r.eight_null.ensures.0 (not-false _ c.if1.false)))
 
 returns_2 : tie.Need-returns-2 invariant-loop decreases-loop
 returns_2 c = tells_passed (run_part _ _ _ _ _ (omega arith) c.loop-test.false c.before.loop.invariant.2)

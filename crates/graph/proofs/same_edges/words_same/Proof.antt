@@ -1,7 +1,7 @@
 -- `graph::same_edges::words_same` meets its contract: the words compared so far are the same.
 -- Assumes nothing.
 use borrow.Author.Rules.{rules}
-use borrow.Author.Tests.{not_true, not_false}
+use borrow.Author.Tests.{not-true, not-false}
 use mathlib.Core.Path.{◌≡◌}
 use Prim.Native.Nat.{◌-◌, ◌%◌}
 use native.Mathlib.Omega.{arith}
@@ -24,7 +24,7 @@ eight-same-requires : tie.Need-eight-same-requires invariant-loop decreases-loop
 eight-same-requires c κs = search rules
 
 returns : tie.Need-returns invariant-loop decreases-loop
-returns c = run_fails _ _ _ _ _ c.before.eight_same.ensures (not_true _ c.if1.true) (omega arith) (omega arith)
+returns c = run_fails _ _ _ _ _ c.before.eight_same.ensures (not-true _ c.if1.true) (omega arith) (omega arith)
 
 add-b : tie.Need-overflow-add-b invariant-loop decreases-loop
 add-b c = search rules
@@ -35,7 +35,7 @@ loop-less c = search rules
 loop-again : tie.Need-loop-preserved invariant-loop decreases-loop
 loop-again c =
     let r = c.before in
-    (omega arith, run_join _ _ _ _ r.before.before.loop.invariant.1 (r.eight_same.ensures.0 (not_false _ c.if1.false)))
+    (omega arith, run_join _ _ _ _ r.before.before.loop.invariant.1 (r.eight_same.ensures.0 (not-false _ c.if1.false)))
 
 returns_2 : tie.Need-returns-2 invariant-loop decreases-loop
 returns_2 c = tells_passed (run_part _ _ _ _ _ (omega arith) c.loop-test.false c.before.loop.invariant.1)

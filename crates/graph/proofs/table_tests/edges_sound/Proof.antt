@@ -3,7 +3,7 @@
 -- Assumes nothing.
 use borrow.Author.Rules.{rules}
 use borrow.Author.Count.{below_none, below_more}
-use borrow.Author.Tests.{not_true, not_false}
+use borrow.Author.Tests.{not-true, not-false}
 use mathlib.Core.Path.{◌≡◌}
 use mathlib.Core.Bool.{true}
 use mathlib.Core.Logic.{◌↔◌}
@@ -39,7 +39,7 @@ returns : tie.Need-returns invariant-loop decreases-loop
 returns c =
     let r = c.before in
     same_answer _ _
-    (tells_failed (λ sound. tells_refuted r.row-sound.ensures (not_true _ c.if1.true) (sound.0 _ r.before.loop-test.true)))
+    (tells_failed (λ sound. tells_refuted r.row-sound.ensures (not-true _ c.if1.true) (sound.0 _ r.before.loop-test.true)))
     (rows r.before.before.before) (λ x. x, λ x. x)
 
 add_a : tie.Need-overflow-add-a invariant-loop decreases-loop
@@ -49,7 +49,7 @@ loop-less : tie.Need-loop-smaller invariant-loop decreases-loop
 loop-less c = search rules
 
 loop-again : tie.Need-loop-preserved invariant-loop decreases-loop
-loop-again c = below_more _ _ c.before.before.before.loop.invariant (c.before.row-sound.ensures.0 (not_false _ c.if1.false))
+loop-again c = below_more _ _ c.before.before.before.loop.invariant (c.before.row-sound.ensures.0 (not-false _ c.if1.false))
 
 mul-words-null : tie.Need-overflow-mul-words-null invariant-loop decreases-loop
 mul-words-null c = search rules

@@ -1,7 +1,7 @@
 -- `graph::table_tests::labels_sound` meets its contract: the labels tested so far have passed.
 -- Assumes nothing.
 use borrow.Author.Rules.{rules}
-use borrow.Author.Tests.{not_true, not_false}
+use borrow.Author.Tests.{not-true, not-false}
 use mathlib.Core.Path.{sym, ◌∙◌}
 use Prim.Native.Nat.{◌-◌}
 use Rattle.bounded.proofs.AllBelow.{PassedTo, passed_none, passed_more, passed_all, false_all_below}
@@ -25,7 +25,7 @@ returns : tie.Need-returns invariant-loop decreases-loop
 unfolding labels_sound
 returns c =
     let r = c.before in
-    sym (false_all_below 64 _ _ r.before.loop-test.true (sym r.label-sound.ensures ∙ not_true _ c.if1.true))
+    sym (false_all_below 64 _ _ r.before.loop-test.true (sym r.label-sound.ensures ∙ not-true _ c.if1.true))
 
 add-v : tie.Need-overflow-add-v invariant-loop decreases-loop
 add-v c = search rules
@@ -36,7 +36,7 @@ loop-less c = search rules
 loop-again : tie.Need-loop-preserved invariant-loop decreases-loop
 loop-again c =
     let r = c.before in
-    passed_more _ _ _ r.before.loop-test.true r.before.before.loop.invariant (sym r.label-sound.ensures ∙ not_false _ c.if1.false)
+    passed_more _ _ _ r.before.loop-test.true r.before.before.loop.invariant (sym r.label-sound.ensures ∙ not-false _ c.if1.false)
 
 returns_2 : tie.Need-returns-2 invariant-loop decreases-loop
 unfolding labels_sound

@@ -1,7 +1,7 @@
 -- `mapping::rows::row_fault` meets its contract: at each return the tests that led there say what `lentRow` computes to.
 -- Assumes nothing.
 use borrow.Author.Rules.{rules}
-use borrow.Author.Tests.{eq-eqb, ne_eqb, lt-ltb, le-ltb, not_true, not_false}
+use borrow.Author.Tests.{eq-eqb, ne_eqb, lt-ltb, le-ltb, not-true, not-false}
 use mathlib.Core.Path.{sym, ◌∙◌}
 use Prim.Native.Nat.{◌<◌}
 use native.Mathlib.Omega.{arith}
@@ -39,7 +39,7 @@ returns-3 c =
     simp (
       ne_eqb _ _ e.before.before.if1.false,
       lt-ltb _ _ e.before.if2.false,
-      sym e.compare-vertices.ensures ∙ not_true _ c.if3.true,
+      sym e.compare-vertices.ensures ∙ not-true _ c.if3.true,
     )
 
 -- the row's image, once it is known to be a new vertex, is a place of the tables
@@ -59,8 +59,8 @@ returns-4 c =
     simp (
       ne_eqb _ _ v.before.before.if1.false,
       lt-ltb _ _ v.before.if2.false,
-      sym v.compare-vertices.ensures ∙ not_false _ c.before.before.if3.false,
-      sym c.before.compare-edges.ensures ∙ not_true _ c.if4.true,
+      sym v.compare-vertices.ensures ∙ not-false _ c.before.before.if3.false,
+      sym c.before.compare-edges.ensures ∙ not-true _ c.if4.true,
     )
 
 first-clash-requires : tie.Need-first-clash-requires
@@ -76,8 +76,8 @@ returns-5 c =
     simp (
       ne_eqb _ _ v.before.before.if1.false,
       lt-ltb _ _ v.before.if2.false,
-      sym v.compare-vertices.ensures ∙ not_false _ own.before.if3.false,
-      sym own.compare-edges.ensures ∙ not_false _ c.before.if4.false,
+      sym v.compare-vertices.ensures ∙ not-false _ own.before.if3.false,
+      sym own.compare-edges.ensures ∙ not-false _ c.before.if4.false,
     )
     c.first-clash.ensures
 

@@ -65,7 +65,7 @@ enum-known-v c = search rules
 member : (c : tie.After-known-told invariant-loop decreases-loop)
     → least_above (rowWord c.before.before.before.before) c.before.before.before.before.loop.last ≡ Member c.before.v.given.0.0
 member c =
-    ap (λ (w : ℕ). least_above w c.before.before.before.before.loop.last) (sym c.before.before.before.before.before.before.before.before.level_word_lem.ensures)
+    ap (λ (w : ℕ). least_above w c.before.before.before.before.loop.last) (sym c.before.before.before.before.before.before.before.before.level_word.ensures)
     ∙ sym c.before.before.before.least_above.ensures
     ∙ c.before.v.given.1
 
@@ -140,7 +140,7 @@ same_length c = search rules
 returns : tie.Need-returns invariant-loop decreases-loop
 returns c =
     let head = c.before.before.before in
-    let none = ap (λ (w : ℕ). least_above w head.loop.last) (sym c.before.before.before.before.before.before.before.level_word_lem.ensures) ∙ sym c.before.before.least_above.ensures ∙ c.enum_told.given.1 in
+    let none = ap (λ (w : ℕ). least_above w head.loop.last) (sym c.before.before.before.before.before.before.before.level_word.ensures) ∙ sym c.before.before.least_above.ensures ∙ c.enum_told.given.1 in
     (head.loop.invariant.1, row_all head.loop.invariant.0 none)
 
 pub row_top_spec : {M : Type 1} → statement M

@@ -24,7 +24,7 @@ entry c = c.before.before.before.before.before.before
 taken : (c : tie.After-known-told)
     → least_member (level_word (entry c).args.workspace.now (entry c).args.pairs (entry c).args.depth) ≡ Member c.before.v.given.0.0
 taken c =
-    ap least_member (sym c.before.before.before.before.level_word_lem.ensures) ∙ sym c.before.before.before.least-member.ensures ∙ c.before.v.given.1
+    ap least_member (sym c.before.before.before.before.level_word.ensures) ∙ sym c.before.before.before.least-member.ensures ∙ c.before.v.given.1
 
 small : (c : tie.After-known-told) → c.before.v.given.0.0 < 64
 small c = (least_below_member 64 _ (taken c)).below
@@ -133,7 +133,7 @@ returns_2 c =
     let told = c.before.before in
     let start = told.before.before.before.before.before in
     let a = start.args in
-    let known = told.before.before.before.level_word_lem in
+    let known = told.before.before.before.level_word in
     let none : least_member (level_word a.workspace.now a.pairs a.depth) ≡ Empty = ap least_member (sym known.ensures) ∙ sym told.before.before.least-member.ensures ∙ told.enum_told.given.1 in
     let empty : level_word a.workspace.now a.pairs a.depth ≡ 0 = empty_word (rw known.ensures at known.type-inv) none in
     let fits : (a.depth + 1) % 256 ≡ a.depth + 1 = omega (arith, start.requires.1.0) in

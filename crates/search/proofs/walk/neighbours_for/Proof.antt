@@ -2,12 +2,12 @@
 use mathlib.Core.Path.{sym, ◌∙◌}
 use mathlib.Core.Bool.{true≢false}
 use borrow.Author.Rules.{rules}
-use borrow.Author.Tests.{not_true}
+use borrow.Author.Tests.{not-true}
 use Rattle.search.proofs.walk.neighbours_for.Statement.{statement}
 use Rattle.search.proofs.walk.neighbours_for.Tie as tie
 
 returns : tie.Need-returns
-returns c = λ e. absurd (true≢false (sym e ∙ not_true c.before.before.args.connected c.if1.true))
+returns c = λ e. absurd (true≢false (sym e ∙ not-true c.before.before.args.connected c.if1.true))
 
 neighbours-requires : tie.Need-neighbours-requires
 neighbours-requires c κs = search rules

@@ -27,7 +27,7 @@ least : (c : tie.After-least-above)
     least_above (level_word a.workspace.now (a.pairs - 1) (pair / 64 % 64)) (pair % 64) ≡ c.least_above.result)
 least c =
     let a = (entry c).args in
-    ap (λ (w : ℕ). least_above w (get_or a.trail.now (a.pairs - 1) 0 % 64)) (sym c.before.level_word_lem.ensures) ∙ sym c.least_above.ensures
+    ap (λ (w : ℕ). least_above w (get_or a.trail.now (a.pairs - 1) 0 % 64)) (sym c.before.level_word.ensures) ∙ sym c.least_above.ensures
 
 move-back-requires : tie.Need-move-back-requires
 move-back-requires c κs = search rules

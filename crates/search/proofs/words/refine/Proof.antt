@@ -11,7 +11,7 @@ use Rattle.bitset.proofs.CountBelow.{count_below_congr}
 use Rattle.bitset.proofs.MembersFrom.{member_from}
 use Rattle.search.specs.Words.{near_word, Met, open_set}
 use Rattle.search.proofs.MetParts.{Parts, parts_meet, size_parts, met_any, met_words, met_first, rest_fits, met_both}
-use Rattle.search.proofs.RefineTurn.{far_word, counted_few, counted_all, counted_last}
+use Rattle.search.proofs.RefineTurn.{far_word_lem, counted_few, counted_all, counted_last}
 use Rattle.search.proofs.words.refine.Statement.{statement}
 use Rattle.search.proofs.words.refine.Tie as tie
 
@@ -63,7 +63,7 @@ all_met c =
     met_both (parts m) first c.before.before.before.before.before.if2.false
     (met_words
     (λ j h own.
-    far_word a.edges.now a.masks.now a.row.0 a.pairs a.value.0 a.workspace.now m.before.members-from.ensures
+    far_word_lem a.edges.now a.masks.now a.row.0 a.pairs a.value.0 a.workspace.now m.before.members-from.ensures
     near.meet-near.last.1.1.0 a.first (entry m).pre.1.3 m.meet.ensures (parts m) refl j h own (first.others (64 * a.pairs + j) (λ k l known e. omega arith)))
     (rw c.before.difference.ensures at c.meet-far.ensures))
 

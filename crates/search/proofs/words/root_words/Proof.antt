@@ -6,7 +6,7 @@ use Prim.Native.Nat.{◌-◌, ◌≤◌}
 use native.Mathlib.Omega.{arith}
 use lib.ListN.{length, length-set}
 use borrow.Author.Rules.{rules}
-use borrow.Author.Tests.{not_true, not_false}
+use borrow.Author.Tests.{not-true, not-false}
 use Rattle.problem.specs.Problem.{Problem}
 use Rattle.problem.specs.VertexSets.{AllowedSets}
 use Rattle.search.proofs.RootTurn.{RootTo, root_none, root_more, root_skip, root_all}
@@ -58,10 +58,10 @@ loop-again c =
       ⊎_elim
           (λ w P e s.
           rw (w.2, w.1.ensures)
-          (root_more P ws (l.invariant.2 P e s) (omega arith) (omega arith) (s.word l.r (omega arith)) (sym tested ∙ not_true _ w.0.taken)))
+          (root_more P ws (l.invariant.2 P e s) (omega arith) (omega arith) (s.word l.r (omega arith)) (sym tested ∙ not-true _ w.0.taken)))
           (λ w P e s.
           rw w.1
-          (root_skip P ws (l.invariant.2 P e s) (omega arith) (omega arith) (s.word l.r (omega arith)) (sym tested ∙ not_false _ w.0.left)))
+          (root_skip P ws (l.invariant.2 P e s) (omega arith) (omega arith) (s.word l.r (omega arith)) (sym tested ∙ not-false _ w.0.left)))
           c.if1.branch,
     )
 
