@@ -1,4 +1,5 @@
 // Sets of the numbers 0 to 63, each a 64-bit word with a digit set for each member.
+#![tactic(auto)]
 
 ghost use Rattle.std.specs.Prelude.{◌≡◌, eqb};
 ghost use Rattle.bitset.specs.Members.{member, meet_of, union_of, difference_of, insert, members_from};

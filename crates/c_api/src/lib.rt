@@ -1,5 +1,7 @@
 // What C, Rust or Python links: exported functions on numbers and byte slices, over graph bytes and checkpoint bytes. include/golfcedar.h declares them.
 
+#![tactic(auto)]
+
 ghost use Rattle.std.specs.Prelude.{◌≡◌};
 ghost use Rattle.answers.specs.Output.{fill};
 ghost use Rattle.reasons.specs.Reasons.{reason_text};

@@ -1,5 +1,7 @@
 // The checkpoint of a search, and the test of its shape for two graphs, a list of substitutes and one of the two searches.
 
+#![tactic(auto)]
+
 mod shape;
 
 ghost use Rattle.std.specs.Prelude.{◌≡◌};

@@ -1,5 +1,7 @@
 // Checkpoints loaded from bytes.
 
+#![tactic(auto)]
+
 mod form;
 mod loader;
 

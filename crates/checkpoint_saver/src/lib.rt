@@ -1,5 +1,7 @@
 // Checkpoints saved as bytes into a lent buffer.
 
+#![tactic(auto)]
+
 mod saver;
 
 ghost use Rattle.std.specs.Prelude.{◌≡◌, cond, ◌≤◌};

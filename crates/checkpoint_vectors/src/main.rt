@@ -1,6 +1,8 @@
 // Saves and loads checkpoints and writes what each call says. The bytes and the expected output were worked out by hand from document 01,
 // "Bookmark and calls" and "Refusals by place of checking", those with a list of substitutes from document 02, U1 and U6, and those of both searches from U7.
 
+#![tactic(auto)]
+
 mod lines;
 
 ghost use Rattle.std.specs.Prelude.{◌≡◌, ◌≤◌, length};

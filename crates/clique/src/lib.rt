@@ -1,5 +1,7 @@
 // Clique branching: the largest common subgraph of two graphs by the search of document 004, for old graphs of at most eight vertices.
 
+#![tactic(auto)]
+
 mod branching;
 mod candidates;
 

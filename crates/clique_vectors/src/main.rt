@@ -1,6 +1,8 @@
 // Runs `clique::branch` on small cases and writes what each says. The expected output was worked out by hand from document 02, U2, U4 and U6, and
 // from document 01, "Good partner lists", "The walk" and "Refusals by place of checking".
 
+#![tactic(auto)]
+
 mod lines;
 
 use graph::Label;

@@ -1,5 +1,7 @@
 // Whether the mapped vertices of the old graph hang together by edges among themselves, by sets of vertices as words.
 
+#![tactic(auto)]
+
 ghost use Rattle.std.specs.Prelude.{◌≡◌, ◌<◌, get_or};
 ghost use Rattle.connected.specs.Spreading.{adjacent as adjacentIn, neighbours as neighboursIn, Neighbours, is_mapped, mapped_set};
 ghost use Rattle.connected.specs.Spreading.{connected_set, is_connected};

@@ -1,6 +1,8 @@
 // The descent: the search for the largest common subgraph, or for the largest connected one, from the largest conceivable minimum, begun anew one lower
 // each time it finishes with nothing held, down to a floor. All visits are made by `search::search`; what a caller keeps is the checkpoint and the floor.
 
+#![tactic(auto)]
+
 ghost use Rattle.std.specs.Prelude.{◌≡◌, ◌≤◌, min, max};
 ghost use Rattle.problem.specs.Lent.{lent};
 ghost use Rattle.checkpoint.specs.Checkpoints.{state_of};

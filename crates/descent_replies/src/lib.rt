@@ -1,5 +1,7 @@
 // A descent from checkpoint bytes to checkpoint bytes: its start saved, and what a caller outside Rattle gets of a descent call, in numbers.
 
+#![tactic(auto)]
+
 ghost use Rattle.std.specs.Prelude.{◌≡◌, List, ℕ, length};
 ghost use Rattle.problem.specs.Lent.{lent};
 ghost use Rattle.checkpoint_saver.specs.Saving.{saving_of};

@@ -1,6 +1,8 @@
 // Graphs in two lent tables, and the test of soundness.
 // A graph is a number of vertices, 64 vertex labels of two bytes and 4,096 edge labels of one, the label of the edge of a and b at 64 * a + b.
 
+#![tactic(auto)]
+
 mod joined;
 mod null_edges;
 mod same_edges;

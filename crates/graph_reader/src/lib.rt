@@ -1,5 +1,7 @@
 // Graph bytes of either edition read into two lent tables, command by command.
 
+#![tactic(auto)]
+
 mod commands;
 mod cursor;
 mod editions;

@@ -1,6 +1,8 @@
 // Runs the reader, the writer, the mover and the soundness test on vectors derived by hand from documents 01 and 02, and prints what they answer.
 // Files are of edition 2, except those that are moved to it.
 
+#![tactic(auto)]
+
 mod lines;
 mod moves;
 

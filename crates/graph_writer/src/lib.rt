@@ -1,6 +1,8 @@
 // A sound graph written as graph bytes into a lent buffer, and graph bytes moved from one edition to the other; and, in proofs/, that reading what is written
 // gives the graph back.
 
+#![tactic(auto)]
+
 mod mover;
 mod writer;
 

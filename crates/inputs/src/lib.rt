@@ -1,5 +1,7 @@
 // What a call on two graphs and a list of substitutes tests before all else, and which of the three is at fault.
 
+#![tactic(auto)]
+
 ghost use Rattle.std.specs.Prelude.{◌≡◌};
 ghost use Rattle.answers.specs.Answer.{refused};
 ghost use Rattle.graph_reader.specs.Reading.{read_graph};

@@ -81,7 +81,7 @@ unfolding from_little
 from_little_zero [] = (λ e i h. refl, λ each. refl)
 from_little_zero (b ∷ bytes) =
     let rest = from_little_zero bytes in (
-      λ e i. elim i [
+      λ e i. elim i as (λ k. k < suc (length bytes) → get_or (b ∷ bytes) k 0 ≡ 0) [
         | zero ↦ λ h. omega arith
         | suc k ↦ λ h. rest.0 (omega arith) k (omega arith)
       ],

@@ -1,5 +1,7 @@
 // Numbers of 64 bits as eight bytes, and of 16 bits as two, the lowest first, by arithmetic.
 
+#![tactic(auto)]
+
 ghost use Rattle.std.specs.Prelude.{◌≡◌, take};
 ghost use Rattle.little_endian.specs.LittleEndian.{little_endian, from_little, two_bytes};
 

@@ -1,6 +1,8 @@
 // Mappings of the old graph's vertices to the new graph's, and the check of a mapping.
 // A mapping has one byte for each old vertex: a new vertex's number, or 255 where the vertex is left out.
 
+#![tactic(auto)]
+
 mod rows;
 
 ghost use Rattle.std.specs.Prelude.{◌≡◌};

@@ -2,6 +2,8 @@
 // "Good partner lists" and "Refusals by place of checking", and from document 02: U1, where a list of substitutes is lent, U4, where a part
 // has a link with itself, and U6, where kinds have two bytes.
 
+#![tactic(auto)]
+
 mod lines;
 mod tables;
 

@@ -1,6 +1,8 @@
 // Two graphs to be compared: three arrays, of their orders, label tables and edge tables, each with the old graph's at 0 and the new graph's at 1; and a list
 // of substitutes, pairs of an old and a new label that agree beside equal ones.
 
+#![tactic(auto)]
+
 mod vertex_sets;
 
 ghost use Rattle.std.specs.Prelude.{◌≡◌, [], ◌<◌};

@@ -1,5 +1,7 @@
 // Two graphs read from their bytes into four lent tables.
 
+#![tactic(auto)]
+
 ghost use Rattle.std.specs.Prelude.{◌≡◌};
 ghost use Rattle.answers.specs.Answer.{refusal_number};
 ghost use Rattle.problem_reader.specs.Answers.{problem_read_answer, problem_reading_of};

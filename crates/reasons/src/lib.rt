@@ -1,5 +1,7 @@
 // The text of each refusal's number, for people. The numbers are the document's, and the texts stand here alone: no program in another language needs a table of its own.
 
+#![tactic(auto)]
+
 mod table;
 
 ghost use Rattle.std.specs.Prelude.{◌≡◌};

@@ -1,5 +1,7 @@
 // Reads old.chart, new.chart and standard input, and writes what `refit_text::refit` says of them.
 
+#![tactic(auto)]
+
 ghost use Rattle.io.specs.Counts.{IsPrefixLen};
 
 use libc::{STDIN_FILENO, STDOUT_FILENO};

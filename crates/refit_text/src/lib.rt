@@ -1,5 +1,7 @@
 // All that the refit program prints, as bytes in a lent buffer.
 
+#![tactic(auto)]
+
 mod program;
 mod report;
 mod vertices;

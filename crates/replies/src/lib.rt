@@ -1,6 +1,8 @@
 // What a caller outside Rattle gets, in numbers: the reply to an answer, to a search call on checkpoint bytes, to a reading out
 // of them, to clique branching, to the step limit foretold, and to the writing of a number's text.
 
+#![tactic(auto)]
+
 mod held;
 mod values;
 mod words;

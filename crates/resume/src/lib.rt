@@ -1,5 +1,7 @@
 // The call of either search on a checkpoint that the caller lends: thin functions over `search::search`, which takes the checkpoint by value.
 
+#![tactic(auto)]
+
 ghost use Rattle.std.specs.Prelude.{◌≡◌};
 ghost use Rattle.problem.specs.Lent.{lent};
 ghost use Rattle.search.specs.Call.{search_call};

@@ -1,5 +1,7 @@
 // The search for the largest common subgraph of two graphs, or for the largest connected one: resumable calls on a checkpoint.
 
+#![tactic(auto)]
+
 mod ceiling;
 mod walk;
 mod words;

@@ -1,5 +1,7 @@
 // How many visits a search can take at most, told from the orders of the two graphs alone.
 
+#![tactic(auto)]
+
 mod table;
 
 ghost use Rattle.std.specs.Prelude.{◌≡◌};

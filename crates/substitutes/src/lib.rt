@@ -1,5 +1,7 @@
 // Substitutes: a lent list of pairs of labels, an old one and then a new one. Labels agree where they are equal or their pair is listed.
 
+#![tactic(auto)]
+
 mod sets;
 
 ghost use Rattle.std.specs.Prelude.{◌≡◌, ◌+◌, ◌<◌, length};

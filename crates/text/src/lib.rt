@@ -1,5 +1,7 @@
 // Texts in a lent buffer: bytes, decimal numbers and lines, put one after the other as far as there is room.
 
+#![tactic(auto)]
+
 ghost use Rattle.std.specs.Prelude.{[], ◌∷◌, ◌++◌};
 ghost use Rattle.text.specs.Decimal.{decimal};
 ghost use Rattle.text.specs.Put.{Put, number_line, pair_line};

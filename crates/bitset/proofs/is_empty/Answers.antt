@@ -7,8 +7,7 @@ use native.Mathlib.Decide.{ℕ_discrete}
 use lib.Count.{ones}
 use lib.Dec.{eqb}
 use Rattle.bitset.proofs.Ones.{size_ones, size_zero}
-use Rattle.bitset.proofs.is_empty.Statement.{statement}
-use Rattle.bitset.proofs.is_empty.Tie as tie
+use Rattle.bitset.proofs.is_empty.Goals as goal
 
 ones_zero : (s : ℕ) → s < 2 ^ 64 → eqb (ones s) 0 ≡ eqb s 0
 ones_zero s h =
@@ -17,8 +16,5 @@ ones_zero s h =
       | no n ↦ ne_eqb _ _ (λ z. n ((size_zero h).0 (size_ones h ∙ z))) ∙ sym (ne_eqb _ _ n)
     ]
 
-returns : tie.Need-returns
+pub returns : goal.returns
 returns c = ones_zero _ (search rules)
-
-pub is_empty_spec : {M : Type 1} → statement M
-is_empty_spec = tie.close (tie.spec returns)
