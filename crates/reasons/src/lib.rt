@@ -17,7 +17,7 @@ const COUNT: usize = 29;
 const WIDTH: usize = 80;
 
 // A text is the first `length` bytes of its row.
-#[derive(Drop)]
+#[derive(Clone, Copy)]
 struct Row {
     length: usize,
     text: [u8; WIDTH],

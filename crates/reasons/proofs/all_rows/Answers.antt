@@ -2,12 +2,8 @@
 use mathlib.Core.Path.{refl}
 use Rattle.reasons.specs.Reasons.{bytes_of, reasons}
 use Rattle.reasons.specs.Rows.{all_fit}
-use Rattle.reasons.proofs.all_rows.Statement.{statement}
-use Rattle.reasons.proofs.all_rows.Tie as tie
+use Rattle.reasons.proofs.all_rows.Goals as goal
 
-returns : tie.Need-returns
+pub returns : goal.returns
 unfolding bytes_of reasons all_fit
 returns c = record { texts = refl; fit = refl }
-
-pub all_rows_spec : {M : Type 1} → statement M
-all_rows_spec = tie.close (tie.spec returns)

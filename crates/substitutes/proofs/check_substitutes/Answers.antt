@@ -1,0 +1,26 @@
+-- `substitutes::check_substitutes` meets its contract: at each return the tests that led there say what `substitutesAnswer` computes to.
+-- Assumes nothing.
+use borrow.Author.Tests.{eq-eqb, ne_eqb, le-leb, lt-leb}
+use mathlib.Core.Path.{sym, ◌∙◌}
+use Rattle.substitutes.specs.Soundness.{substitutes_answer}
+use Rattle.substitutes.proofs.check_substitutes.Goals as goal
+
+pub returns-then-list-ne0 : goal.returns-then-list-ne0
+unfolding substitutes_answer
+returns-then-list-ne0 c = simp (ne_eqb _ _ c.if-list-ne0.true)
+
+pub returns-then-list-gt-MAX_BYTES : goal.returns-then-list-gt-MAX_BYTES
+unfolding substitutes_answer
+returns-then-list-gt-MAX_BYTES c = simp (eq-eqb _ _ c.if-list-ne0.false, lt-leb _ _ c.if-list-gt-MAX_BYTES.true)
+
+pub returns-then-not-labels_sound : goal.returns-then-not-labels_sound
+unfolding substitutes_answer
+returns-then-not-labels_sound c =
+    let long = c.before.before in
+    simp (eq-eqb _ _ long.if-list-ne0.false, le-leb _ _ long.if-list-gt-MAX_BYTES.false, sym c.labels_sound.ensures ∙ c.if-not-labels_sound.true)
+
+pub returns : goal.returns
+unfolding substitutes_answer
+returns c =
+    let long = c.before.before in
+    simp (eq-eqb _ _ long.if-list-ne0.false, le-leb _ _ long.if-list-gt-MAX_BYTES.false, sym c.labels_sound.ensures ∙ c.if-not-labels_sound.false)

@@ -1,0 +1,36 @@
+use borrow.Author.Tests.{eq-eqb, ne_eqb}
+use mathlib.Core.Path.{refl, sym, ◌∙◌}
+use mathlib.Core.Bool.{not, and-false}
+use Prim.Native.Nat.{◌-◌}
+use Rattle.bounded.proofs.AllBelow.{passed_none, passed_more, passed_all, false_all_below}
+use lib.Dec.{eqb}
+use Rattle.substitutes.specs.Substitutes.{old_label}
+use Rattle.substitutes.proofs.labels_sound.Goals as goal
+
+pub loop-k-init : goal.loop-k-init
+loop-k-init c = passed_none _ _
+
+pub returns-then-label_at-eq0 : goal.returns-then-label_at-eq0
+returns-then-label_at-eq0 c =
+    let turn = c.before.before in
+    sym (false_all_below _ _ turn.loop-k.k turn.loop-k-test.true (rw (eq-eqb _ _ (sym c.label_at.ensures ∙ c.if-label_at-eq0.true)) refl))
+
+pub returns-then-label_at-eq0-2 : goal.returns-then-label_at-eq0-2
+returns-then-label_at-eq0-2 c =
+    let turn = c.before.before.before.before in
+    sym (false_all_below _ _ turn.loop-k.k turn.loop-k-test.true
+    (rw (eq-eqb _ _ (sym c.label_at-in-loop-k.ensures ∙ c.if-label_at-eq0-2.true))
+    (and-false (not (eqb (old_label turn.args.list.now turn.loop-k.k) 0)))))
+
+pub loop-k-preserved : goal.loop-k-preserved
+loop-k-preserved c =
+    let first = c.before.before in
+    let turn = first.before.before in
+    passed_more _ _ _ turn.loop-k-test.true turn.loop-k.invariant
+    (rw (
+      ne_eqb _ _ (λ e. first.if-label_at-eq0.false (first.label_at.ensures ∙ e)),
+      ne_eqb _ _ (λ e. c.if-label_at-eq0-2.false (c.label_at-in-loop-k.ensures ∙ e)),
+    ) refl)
+
+pub returns : goal.returns
+returns c = sym (passed_all _ _ _ c.loop-k-test.false c.loop-k.invariant)

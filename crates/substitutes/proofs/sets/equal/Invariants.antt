@@ -1,0 +1,16 @@
+-- `substitutes::sets::equal` meets its contract: the places passed have the sets of their labels.
+-- Assumes nothing.
+use mathlib.Core.Bool.{cond}
+use Prim.Native.Nat.{◌-◌, ◌≤◌}
+use lib.Dec.{ltb}
+use lib.ListN.{length, get_or, replicate}
+use Rattle.bounded.proofs.Settled.{SettledTo}
+use Rattle.substitutes.specs.Agreeing.{having}
+use Rattle.substitutes.proofs.sets.equal.Given as goal
+
+abbrev pub invariant-loop-v : goal.invariant-loop-v
+invariant-loop-v l =
+    (l.v ≤ 64) × SettledTo (λ u. cond (ltb u (length l.old)) (having l.low l.high (get_or l.old u 0)) 0) (replicate 64 0) l.v l.words
+
+abbrev pub decreases-loop-v : goal.decreases-loop-v
+decreases-loop-v l = 64 - l.v
