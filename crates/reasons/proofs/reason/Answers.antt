@@ -5,13 +5,13 @@ use Rattle.reasons.proofs.RowTexts.{row_fits, text_length, none_written, short_r
 use Rattle.reasons.proofs.reason.Goals as goal
 
 pub returns-then-number : goal.returns-then-number
-returns-then-number c = none_written c.args.number c.args.out-1.now (search rules)
+returns-then-number c = none_written c.args.number c.args.out.now (search rules)
 
 pub returns-then-out-row : goal.returns-then-out-row
 returns-then-out-row c =
     let rows = c.all_rows-rows in
     let a = c.args in
-    short_refused rows.result rows.ensures a.number a.out-1.now (search rules)
+    short_refused rows.result rows.ensures a.number a.out.now (search rules)
 
 pub slice_bounds-text-end : goal.slice_bounds-text-end
 slice_bounds-text-end c =
@@ -28,4 +28,4 @@ returns c =
     let put = c.before.before in
     let rows = put.all_rows-rows in
     let a = c.args in
-    row_written rows.result rows.ensures a.number a.out-1.now _ _ (search rules) put.put.ensures
+    row_written rows.result rows.ensures a.number a.out.now _ _ (search rules) put.put.ensures

@@ -10,25 +10,19 @@ use Rattle.substitutes.proofs.agreeing.Goals.{After-equal-equal}
 -- how great the entries of the three lent slices are
 slices : (c : After-equal-equal) → let a = c.args in
     ((u : ℕ) → get_or a.old.now u 0 < 65536) × ((u : ℕ) → get_or a.new.now u 0 < 65536) × ((u : ℕ) → get_or a.list.now u 0 < 256)
-slices c =
-    let known = c.before.before.before.before.before in (
-      λ u. omega (arith, known.shared_slice_known-1.given u),
-      λ u. omega (arith, known.shared_slice_known-2-1.given u),
-      λ u. omega (arith, known.shared_slice_known-3-1.given u),
-    )
+slices c = (
+  λ u. omega (arith, c.shared_slice_known-1.given u),
+  λ u. omega (arith, c.shared_slice_known-2-1.given u),
+  λ u. omega (arith, c.shared_slice_known-3-1.given u),
+)
 
 pub returns-then-list-lt-PAIR_BYTES : goal.returns-then-list-lt-PAIR_BYTES
 returns-then-list-lt-PAIR_BYTES c =
-    let known = slices c.before in
-    let places = c.before.before.before.before in
-    equal_agreeing places.places-new_low.ensures places.places-new_high.ensures c.equal-equal.ensures known.0 known.1 (omega arith)
+    let known = slices (goal.at.returns-then-list-lt-PAIR_BYTES c).After-equal-equal in
+    equal_agreeing c.places-new_low.ensures c.places-new_high.ensures c.equal-equal.ensures known.0 known.1 (omega arith)
 
 pub returns : goal.returns
 returns c =
-    let joined = c.before.before.before.before in
-    let old = joined.before.before.before.before.before in
-    let equal = old.before.before.before in
-    let known = slices equal in
-    let new = equal.before.before.before in
-    spread_agreeing new.places-new_low.ensures new.places-new_high.ensures equal.equal-equal.ensures known.0 known.1 old.places-old_low.ensures
-    old.places-old_high.ensures joined.joined-joined.ensures c.spread.ensures known.2
+    let known = slices (goal.at.returns c).After-equal-equal in
+    spread_agreeing c.places-new_low.ensures c.places-new_high.ensures c.equal-equal.ensures known.0 known.1 c.places-old_low.ensures
+    c.places-old_high.ensures c.joined-joined.ensures c.spread.ensures known.2

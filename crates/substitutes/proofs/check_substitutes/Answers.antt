@@ -16,11 +16,9 @@ returns-then-list-gt-MAX_BYTES c = simp (eq-eqb _ _ c.if-list-ne0.false, lt-leb 
 pub returns-then-not-labels_sound : goal.returns-then-not-labels_sound
 unfolding substitutes_answer
 returns-then-not-labels_sound c =
-    let long = c.before.before in
-    simp (eq-eqb _ _ long.if-list-ne0.false, le-leb _ _ long.if-list-gt-MAX_BYTES.false, sym c.labels_sound.ensures ∙ c.if-not-labels_sound.true)
+    simp (eq-eqb _ _ c.if-list-ne0.false, le-leb _ _ c.if-list-gt-MAX_BYTES.false, sym c.labels_sound.ensures ∙ c.if-not-labels_sound.true)
 
 pub returns : goal.returns
 unfolding substitutes_answer
 returns c =
-    let long = c.before.before in
-    simp (eq-eqb _ _ long.if-list-ne0.false, le-leb _ _ long.if-list-gt-MAX_BYTES.false, sym c.labels_sound.ensures ∙ c.if-not-labels_sound.false)
+    simp (eq-eqb _ _ c.if-list-ne0.false, le-leb _ _ c.if-list-gt-MAX_BYTES.false, sym c.labels_sound.ensures ∙ c.if-not-labels_sound.false)

@@ -12,23 +12,19 @@ loop-k-init c = passed_none _ _
 
 pub returns-then-label_at-eq0 : goal.returns-then-label_at-eq0
 returns-then-label_at-eq0 c =
-    let turn = c.before.before in
-    sym (false_all_below _ _ turn.loop-k.k turn.loop-k-test.true (rw (eq-eqb _ _ (sym c.label_at.ensures ∙ c.if-label_at-eq0.true)) refl))
+    sym (false_all_below _ _ c.loop-k.k c.loop-k-test.true (rw (eq-eqb _ _ (sym c.label_at.ensures ∙ c.if-label_at-eq0.true)) refl))
 
 pub returns-then-label_at-eq0-2 : goal.returns-then-label_at-eq0-2
 returns-then-label_at-eq0-2 c =
-    let turn = c.before.before.before.before in
-    sym (false_all_below _ _ turn.loop-k.k turn.loop-k-test.true
+    sym (false_all_below _ _ c.loop-k.k c.loop-k-test.true
     (rw (eq-eqb _ _ (sym c.label_at-in-loop-k.ensures ∙ c.if-label_at-eq0-2.true))
-    (and-false (not (eqb (old_label turn.args.list.now turn.loop-k.k) 0)))))
+    (and-false (not (eqb (old_label c.args.list.now c.loop-k.k) 0)))))
 
 pub loop-k-preserved : goal.loop-k-preserved
 loop-k-preserved c =
-    let first = c.before.before in
-    let turn = first.before.before in
-    passed_more _ _ _ turn.loop-k-test.true turn.loop-k.invariant
+    passed_more _ _ _ c.loop-k-test.true c.loop-k.invariant
     (rw (
-      ne_eqb _ _ (λ e. first.if-label_at-eq0.false (first.label_at.ensures ∙ e)),
+      ne_eqb _ _ (λ e. c.if-label_at-eq0.false (c.label_at.ensures ∙ e)),
       ne_eqb _ _ (λ e. c.if-label_at-eq0-2.false (c.label_at-in-loop-k.ensures ∙ e)),
     ) refl)
 

@@ -18,12 +18,10 @@ first_is low high a e f g =
 
 pub returns-in-Member : goal.returns-in-Member
 returns-in-Member c =
-    let m = c.before.before.before in
-    let a = m.args in
-    first_is a.low.now a.high.now a.label m.having.ensures m.least_member.ensures c.place-1.given.1
+    let a = c.args in
+    first_is a.low.now a.high.now a.label c.having.ensures c.least_member.ensures c.in-Member.is
 
 pub returns-in-Empty : goal.returns-in-Empty
 returns-in-Empty c =
-    let m = c.before.before in
-    let a = m.args in
-    first_is a.low.now a.high.now a.label m.having.ensures m.least_member.ensures c.enum_told-1.given.1
+    let a = c.args in
+    first_is a.low.now a.high.now a.label c.having.ensures c.least_member.ensures c.in-Empty.is

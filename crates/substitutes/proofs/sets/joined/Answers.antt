@@ -14,16 +14,14 @@ loop-k-init c = (search rules, filled_none _ _ _)
 
 pub loop-k-preserved : goal.loop-k-preserved
 loop-k-preserved c =
-    let first = c.before.before in
-    let turn = first.before.before.before in
-    let a = turn.args in (
+    let a = c.args in (
       search rules,
-      filled_more _ _ _ turn.loop-k.invariant.1
-          (first.first_having-first.ensures.0 ∙ ap (first_having a.«old-low».now a.«old-high».now) first.label_at-old.ensures)
-          first.first_having-first.ensures.1
+      filled_more _ _ _ c.loop-k.invariant.1
+          (c.first_having-first.ensures.0 ∙ ap (first_having a.old_low.now a.old_high.now) c.label_at-old.ensures)
+          c.first_having-first.ensures.1
           (c.union.ensures
-          ∙ ap (union_of (get_or turn.loop-k.sets first.first_having-first.result 0))
-          (c.having.ensures ∙ ap (having a.«new-low».now a.«new-high».now) first.label_at-new.ensures)),
+          ∙ ap (union_of (get_or c.loop-k.sets c.first_having-first.result 0))
+          (c.having.ensures ∙ ap (having a.new_low.now a.new_high.now) c.label_at-new.ensures)),
     )
 
 pub returns : goal.returns

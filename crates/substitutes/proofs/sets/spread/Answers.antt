@@ -20,9 +20,9 @@ loop-v-preserved c =
     let a = c.args in (
       search rules,
       elim c.if-v-old.branch [
-        | then-v-old w ↦ rw w.union
-            (settled_more _ _ l.invariant.1 (omega (arith, c.well-formed))
-            (rw (lt-ltb _ _ w.if-v-old.true) (w.union-arg-1.ensures ∙ ap (λ (r : ℕ). union_of (get_or a.t5 l.v 0) (get_or a.joined.now r 0)) w.first_having-first.ensures.0)))
+        | then-v-old w ↦ rw w.words-is
+            (settled_more _ _ l.invariant.1 (omega (arith, c.well_formed))
+            (rw (lt-ltb _ _ w.if-v-old.true) (w.union.ensures ∙ ap (λ (r : ℕ). union_of (get_or a.equal l.v 0) (get_or a.joined.now r 0)) w.first_having-first.ensures.0)))
         | else-v-old w ↦ rw w.words-is (settled_skip _ _ l.invariant.1 (rw (le-ltb _ _ w.if-v-old.false) refl))
       ],
     )
@@ -30,4 +30,4 @@ loop-v-preserved c =
 pub returns : goal.returns
 returns c =
     let s = c.loop-v.invariant.1 in
-    record { entries = s.entries ∙ omega (arith, c.well-formed); word = λ v h. s.settled v (omega (arith, h, c.loop-v-test.false)) }
+    record { entries = s.entries ∙ omega (arith, c.well_formed); word = λ v h. s.settled v (omega (arith, h, c.loop-v-test.false)) }
