@@ -6,7 +6,7 @@ ghost use Rattle.bitset.specs.Members.{member, meet_of, union_of, difference_of,
 ghost use Rattle.bitset.specs.Count.{size};
 ghost use Rattle.bitset.specs.Least.{least_member, least_above, without_least};
 
-#[derive(Drop)]
+#[derive(Clone, Copy)]
 pub enum Least {
     Member(usize),
     Empty,

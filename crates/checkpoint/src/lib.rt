@@ -15,7 +15,7 @@ use mapping::MappingsAnswer;
 use problem::{Edges, Labels, Orders, ProblemFlaw};
 
 // 01 calls a checkpoint a bookmark, the minimum a floor, the incumbent the held matching.
-#[derive(Drop)]
+#[derive(Clone, Copy)]
 pub struct Checkpoint {
     pub minimum: u8,
     pub steps: u64,
@@ -44,7 +44,7 @@ impl Checkpoint {
 }
 
 // The answer of `check_checkpoint`.
-#[derive(Drop)]
+#[derive(Clone, Copy)]
 pub enum ShapeAnswer {
     InShape,
     Flawed(ProblemFlaw),

@@ -6,7 +6,7 @@ ghost use Rattle.checkpoint_loader.specs.Form.{stage_if, header_stage, path_stag
 use checkpoint_saver::{END, INCUMBENT_MARK, MINIMUM_MARK, PATH_MARK, STATE_MARK, STEPS_MARK};
 
 // What may come next: a byte of the header; an entry of the path, its byte; an entry of the incumbent, its byte; nothing.
-#[derive(Drop)]
+#[derive(Clone, Copy)]
 pub enum Stage {
     Header(usize),
     Path(bool, usize),
@@ -17,14 +17,14 @@ pub enum Stage {
 }
 
 // The stage after a byte, or that the byte cannot stand there.
-#[derive(Drop)]
+#[derive(Clone, Copy)]
 pub enum Step {
     To(Stage),
     Stuck,
 }
 
 // Whether bytes are in the form, or the place of the first byte that cannot stand where it does.
-#[derive(Drop)]
+#[derive(Clone, Copy)]
 pub enum Form {
     Whole,
     FaultAt(usize),

@@ -16,7 +16,7 @@ use form::Form;
 use problem::{Edges, Labels, Orders, ProblemAnswer, ProblemFlaw};
 
 // The answer of `load_checkpoint`: a checkpoint in shape, or a refusal; `Malformed` has the place of the first byte that cannot stand there.
-#[derive(Drop)]
+#[derive(Clone, Copy)]
 pub enum LoadAnswer {
     InShape,
     Flawed(ProblemFlaw),
@@ -37,7 +37,7 @@ pub fn load_number(answer: LoadAnswer) -> u8
 }
 
 // The answer, and the checkpoint that was loaded; the fresh one of minimum 0 after a refusal.
-#[derive(Drop)]
+#[derive(Clone, Copy)]
 pub struct Loaded {
     pub answer: LoadAnswer,
     pub checkpoint: Checkpoint,

@@ -30,7 +30,7 @@ pub const END: u8 = 0;
 pub const HEADER: usize = 13;
 
 // The answer of `save_checkpoint`: how many bytes were written, or a refusal.
-#[derive(Drop)]
+#[derive(Clone, Copy)]
 pub enum SaveAnswer {
     Written(usize),
     Flawed(ProblemFlaw),

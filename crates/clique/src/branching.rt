@@ -13,7 +13,7 @@ use mapping::{OldVertex, UNMAPPED};
 use problem::{Edges, Orders};
 
 // The mapping that is held, if there is one, and how many pairs the next one must have.
-#[derive(Drop)]
+#[derive(Clone, Copy)]
 pub struct Incumbent {
     pub cutoff: usize,
     pub holds: bool,

@@ -20,7 +20,7 @@ use problem::{Edges, Labels, Orders, ProblemAnswer, ProblemFlaw};
 pub const MAX_OLD: usize = 8;
 
 // The answer of `branch`.
-#[derive(Drop)]
+#[derive(Clone, Copy)]
 pub enum CliqueAnswer {
     Held,
     NothingHeld,
@@ -29,7 +29,7 @@ pub enum CliqueAnswer {
 }
 
 // The answer, and the mapping that is held: one entry for each old vertex, and 0 after them; all 0 where nothing is held.
-#[derive(Drop)]
+#[derive(Clone, Copy)]
 pub struct Branched {
     pub answer: CliqueAnswer,
     pub mapping: [u8; MAX_OLD],

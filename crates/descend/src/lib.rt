@@ -15,7 +15,7 @@ use problem::{Edges, Labels, Orders};
 use search::{SearchAnswer, Searched, WORDS};
 
 // The answer of a call, the visits that it made, and the checkpoint after it.
-#[derive(Drop)]
+#[derive(Clone, Copy)]
 pub struct Descended {
     pub answer: SearchAnswer,
     pub visits: u64,

@@ -18,7 +18,7 @@ use replies::Reply;
 use search::{SearchAnswer, WORDS};
 
 // A reply, the ceiling, and the visits made.
-#[derive(Drop)]
+#[derive(Clone, Copy)]
 pub struct DescentNumbers {
     pub reply: Reply,
     pub ceiling: u64,

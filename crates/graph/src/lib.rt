@@ -22,7 +22,7 @@ pub const MAX_ORDER: usize = 64;
 pub const EDGE_BYTES: usize = 4096;
 
 // Why lent tables hold no sound graph.
-#[derive(Drop)]
+#[derive(Clone, Copy)]
 pub enum Flaw {
     Tables,
     Labels,
@@ -30,7 +30,7 @@ pub enum Flaw {
 }
 
 // The answer of `check_graph`.
-#[derive(Drop)]
+#[derive(Clone, Copy)]
 pub enum Soundness {
     Sound,
     Flawed(Flaw),

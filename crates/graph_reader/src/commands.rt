@@ -8,7 +8,7 @@ ghost use Rattle.graph_reader.specs.Reading.{Applied};
 use super::{Edition, Fault, editions};
 use graph::{Label, MAX_ORDER};
 
-#[derive(Drop)]
+#[derive(Clone, Copy)]
 pub enum Command {
     Vertex(Label),
     Edge(u8, u8, u8),
@@ -18,7 +18,7 @@ pub enum Command {
 }
 
 // What a command did: the order of the graph it grew, the end, or a fault.
-#[derive(Drop)]
+#[derive(Clone, Copy)]
 pub enum Step {
     Grown(usize),
     Ended,

@@ -9,7 +9,7 @@ ghost use Rattle.graph_reader.specs.Cursor.{command_at, place_after};
 use super::commands::Command;
 use super::{Edition, commands};
 
-#[derive(Drop)]
+#[derive(Clone, Copy)]
 pub struct Reader<'a> {
     pub bytes: &'a [u8],
     pub at: usize,

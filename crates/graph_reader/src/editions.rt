@@ -9,7 +9,7 @@ use super::{Edition, Fault};
 use graph::Label;
 
 // How a file begins: as its edition does, or with a fault.
-#[derive(Drop)]
+#[derive(Clone, Copy)]
 pub enum Opening {
     Opened,
     Faulty(Fault),

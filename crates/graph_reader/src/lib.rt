@@ -16,14 +16,14 @@ ghost use Rattle.graph_reader.specs.Reading.{reading_of, reading_edition, readin
 use graph::{EDGE_BYTES, Label, MAX_ORDER};
 
 // How graph bytes are written: the first edition's labels take one byte, the second's two.
-#[derive(Drop)]
+#[derive(Clone, Copy)]
 pub enum Edition {
     One,
     Two,
 }
 
 // Why graph bytes do not begin as they should, or a command or a byte after the end cannot stand where it does.
-#[derive(Drop)]
+#[derive(Clone, Copy)]
 pub enum Fault {
     Truncated,
     UnknownCommand,
@@ -38,7 +38,7 @@ pub enum Fault {
 }
 
 // The answer of a reading: the graph's order, or a refusal, with the place of the fault.
-#[derive(Drop)]
+#[derive(Clone, Copy)]
 pub enum ReadAnswer {
     Order(usize),
     Tables,

@@ -18,7 +18,7 @@ use graph_reader::{Edition, Fault, ReadAnswer};
 use writer::Filled;
 
 // The answer of `write_graph`: how many bytes were written, or a refusal.
-#[derive(Drop)]
+#[derive(Clone, Copy)]
 pub enum WriteAnswer {
     Written(usize),
     Flawed(Flaw),
@@ -26,7 +26,7 @@ pub enum WriteAnswer {
 }
 
 // The answer of a move: how many bytes were written, or a refusal, with the place of the reader's fault.
-#[derive(Drop)]
+#[derive(Clone, Copy)]
 pub enum MoveAnswer {
     Moved(usize),
     Refused(Fault, usize),

@@ -12,7 +12,7 @@ use graph::{Label, MAX_ORDER};
 use graph_reader::Edition;
 
 // What became of the bytes: how many were written, or there was no room.
-#[derive(Drop)]
+#[derive(Clone, Copy)]
 pub enum Filled {
     Written(usize),
     TooShort,

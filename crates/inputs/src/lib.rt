@@ -25,7 +25,7 @@ const NEW_GRAPH: u64 = 2;
 const SUBSTITUTES: u64 = 3;
 
 // A reply, and what it is about.
-#[derive(Drop)]
+#[derive(Clone, Copy)]
 pub struct Judgement {
     pub reply: Reply,
     pub about: u64,

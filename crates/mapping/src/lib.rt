@@ -17,15 +17,15 @@ use problem::{Edges, Labels, Orders, ProblemAnswer, ProblemFlaw};
 pub const UNMAPPED: u8 = 255;
 
 // An old and a new vertex: a number of one never serves as the other's.
-#[derive(Drop)]
+#[derive(Clone, Copy)]
 pub struct OldVertex(pub usize);
 
-#[derive(Drop)]
+#[derive(Clone, Copy)]
 pub struct NewVertex(pub usize);
 
 // The answer of `check_mapping`: the mapping's size, or the refusal with its row and, where two rows clash, the earlier row; of a
 // row with itself, that row twice.
-#[derive(Drop)]
+#[derive(Clone, Copy)]
 pub enum MappingAnswer {
     Common(usize),
     Flawed(ProblemFlaw),
@@ -37,7 +37,7 @@ pub enum MappingAnswer {
 }
 
 // The answer of `check_mappings`: the graphs' refusal, or what the check says of each list.
-#[derive(Drop)]
+#[derive(Clone, Copy)]
 pub enum MappingsAnswer {
     Flawed(ProblemFlaw),
     Checked(MappingAnswer, MappingAnswer),

@@ -15,7 +15,7 @@ use graph::MAX_ORDER;
 use problem::{Edges, Orders};
 
 // What the check of one row, or of several, finds.
-#[derive(Drop)]
+#[derive(Clone, Copy)]
 pub enum Finding {
     Clear,
     Fault(MappingAnswer),

@@ -7,7 +7,7 @@ use graph_reader::ReadAnswer;
 use libc::STDOUT_FILENO;
 
 // What is wrong with the tables. The graphs here that are harmed have fewer than 64 vertices, and at least one.
-#[derive(Drop)]
+#[derive(Clone, Copy)]
 pub enum Harm {
     Sound,
     // the order is 65

@@ -24,7 +24,7 @@ pub type Labels<'a> = [&'a [Label]; 2];
 pub type Edges<'a> = [&'a [u8]; 2];
 
 // Why what is lent is no problem of two sound graphs and a sound list.
-#[derive(Drop)]
+#[derive(Clone, Copy)]
 pub enum ProblemFlaw {
     Tables,
     Labels,
@@ -34,7 +34,7 @@ pub enum ProblemFlaw {
 }
 
 // The answer of `check_problem`.
-#[derive(Drop)]
+#[derive(Clone, Copy)]
 pub enum ProblemAnswer {
     Sound,
     Flawed(ProblemFlaw),

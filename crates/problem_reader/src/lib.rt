@@ -11,7 +11,7 @@ use graph::Label;
 use graph_reader::ReadAnswer;
 
 // The answer of `read_problem`: both orders, or what `read_graph` says of the first graph that is refused.
-#[derive(Drop)]
+#[derive(Clone, Copy)]
 pub enum ProblemRead {
     Orders(usize, usize),
     Refused(ReadAnswer),

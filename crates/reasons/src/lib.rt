@@ -24,7 +24,7 @@ struct Row {
 }
 
 // The answer of `reason`: how many bytes the text has, or that the buffer is too short for it.
-#[derive(Drop)]
+#[derive(Clone, Copy)]
 pub enum ReasonAnswer {
     Written(usize),
     TooShort,

@@ -38,28 +38,28 @@ use search::{SearchAnswer, WORDS};
 use step_limit::LimitAnswer;
 
 // The document's number of a refusal, or 0, and the value that goes with it.
-#[derive(Drop)]
+#[derive(Clone, Copy)]
 pub struct Reply {
     pub number: u32,
     pub value: u64,
 }
 
 // A reply, and the earlier row, or the same row where it is held against itself.
-#[derive(Drop)]
+#[derive(Clone, Copy)]
 pub struct MappingReply {
     pub reply: Reply,
     pub earlier: u64,
 }
 
 // A reply, and the ceiling.
-#[derive(Drop)]
+#[derive(Clone, Copy)]
 pub struct ResumeReply {
     pub reply: Reply,
     pub ceiling: u64,
 }
 
 // A reply, whose value is the state, and a checkpoint's numbers.
-#[derive(Drop)]
+#[derive(Clone, Copy)]
 pub struct ReadReply {
     pub reply: Reply,
     pub steps: u64,
@@ -68,7 +68,7 @@ pub struct ReadReply {
 }
 
 // A reply, whose value says whether a mapping is held, and the mapping's size.
-#[derive(Drop)]
+#[derive(Clone, Copy)]
 pub struct BranchReply {
     pub reply: Reply,
     pub size: u64,

@@ -22,7 +22,7 @@ use problem::{Edges, Labels, Orders, ProblemFlaw};
 pub const WORDS: usize = 4160;
 
 // The answer of a search call: the ceiling, or the refusal.
-#[derive(Drop)]
+#[derive(Clone, Copy)]
 pub enum SearchAnswer {
     Ceiling(usize),
     Flawed(ProblemFlaw),
@@ -45,7 +45,7 @@ pub fn search_number(answer: SearchAnswer) -> u8
 }
 
 // The answer, and the checkpoint after the call.
-#[derive(Drop)]
+#[derive(Clone, Copy)]
 pub struct Searched {
     pub answer: SearchAnswer,
     pub checkpoint: Checkpoint,

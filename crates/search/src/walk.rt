@@ -27,7 +27,7 @@ const LATER: usize = MAX_ORDER * MAX_ORDER;
 
 // Where the walk stands: the next node's depth and number of pairs, or finished at depth 0. `last` is its last row's entry, and `later` tells how
 // many rows after it have a candidate before that entry is met: where the row is left out, none is lost.
-#[derive(Drop)]
+#[derive(Clone, Copy)]
 pub struct Place {
     pub depth: usize,
     pub pairs: usize,
@@ -38,7 +38,7 @@ pub struct Place {
 
 // A checkpoint, with the numbers that follow from it: the pairs on its path, the cutoff, which a node must reach, and its node's upper bound, or,
 // where that is below the cutoff, some number below it. The bound is made on arrival, so that a visit first moves and then counts.
-#[derive(Drop)]
+#[derive(Clone, Copy)]
 pub struct Walk {
     pub checkpoint: Checkpoint,
     pub pairs: usize,

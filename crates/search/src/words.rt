@@ -133,7 +133,7 @@ pub fn all_first(order: usize, edges: &[u8]) -> [u64; MAX_ORDER]
 }
 
 // The rows that keep a candidate, and how many of the rows open before are not known to have lost theirs.
-#[derive(Drop)]
+#[derive(Clone, Copy)]
 pub struct Kept {
     pub rows: u64,
     pub count: usize,

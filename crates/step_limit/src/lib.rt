@@ -17,7 +17,7 @@ const ORDERS: usize = MAX_ORDER + 1;
 const ENTRIES: usize = ORDERS * ORDERS;
 
 // The answer of `step_limit`.
-#[derive(Drop)]
+#[derive(Clone, Copy)]
 pub enum LimitAnswer {
     Limit(u64),
     ManyVertices,

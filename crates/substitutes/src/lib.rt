@@ -20,7 +20,7 @@ pub const PAIR_BYTES: usize = 4;
 pub const MAX_BYTES: usize = 1024;
 
 // The answer of `check_substitutes`.
-#[derive(Drop)]
+#[derive(Clone, Copy)]
 pub enum SubstitutesAnswer {
     Sound,
     Length,
