@@ -24,9 +24,9 @@ lent_fits P s = ((s.old_sound.edges_length, s.new_sound.edges_length), s.old_sou
 module _ (orders : List ℕ) (labels edges : Tables) (substitutes : List ℕ) {sets : List ℕ} (sound : SoundProblem (lent orders labels edges substitutes))
     (agreed : Agreeing (table_at labels 0) (table_at labels 1) substitutes sets) where
   -- A row of an old vertex: an entry that is a new vertex is in the row's set exactly where the labels agree.
-  lent_row : (l : List ℕ) (v : ℕ) → v < get_or orders 0 0 → lent_row orders sets edges l v ≡ row_fault (lent orders labels edges substitutes) l v
+  lent_row_lem : (l : List ℕ) (v : ℕ) → v < get_or orders 0 0 → lent_row orders sets edges l v ≡ row_fault (lent orders labels edges substitutes) l v
   unfolding lent_row row_fault
-  lent_row l v h = go (ltb (get_or l v 0) (get_or orders 1 0)) refl
+  lent_row_lem l v h = go (ltb (get_or l v 0) (get_or orders 1 0)) refl
     where
       go : (t : Bool) → ltb (get_or l v 0) (get_or orders 1 0) ≡ t → lent_row orders sets edges l v ≡ row_fault (lent orders labels edges substitutes) l v
       go true e =
@@ -42,5 +42,5 @@ module _ (orders : List ℕ) (labels edges : Tables) (substitutes : List ℕ) {s
     where
       go : Dec (length l ≡ get_or orders 0 0) → list_by (get_or orders 0 0) (lent_row orders sets edges l) l ≡ list_outcome (lent orders labels edges substitutes) l
       go (yes e) =
-          rw (first_below_congr (length l) (lent_row orders sets edges l) (row_fault (lent orders labels edges substitutes) l) (λ v h. lent_row l v (omega arith))) refl
+          rw (first_below_congr (length l) (lent_row orders sets edges l) (row_fault (lent orders labels edges substitutes) l) (λ v h. lent_row_lem l v (omega arith))) refl
       go (no n) = rw (ne_eqb (length l) (get_or orders 0 0) n) refl
