@@ -1,0 +1,20 @@
+-- `connected::is_connected_set` meets its contract: the front and the rest spread on to the same answer, and each round leaves fewer in both.
+-- Assumes nothing.
+use mathlib.Core.Path.{◌≡◌}
+use Prim.Native.Nat.{ℕ, ◌+◌, ◌≤◌}
+use lib.ListN.{get_or}
+use Rattle.bitset.specs.Count.{size}
+use Rattle.connected.specs.Spreading.{connected_set, spreads}
+use Rattle.connected.proofs.is_connected_set.Given as goal
+
+-- with rounds enough, the front spreads over the rest exactly where the set hangs together
+pub record SpreadsOn (near : ℕ → ℕ) (set rest front : ℕ) : Type 0 where
+  pub rounds : ℕ
+  pub enough : size front + size rest ≤ rounds
+  pub same : spreads near rounds front rest ≡ connected_set near set
+
+abbrev pub invariant-loop-set : goal.invariant-loop-set
+invariant-loop-set l = SpreadsOn (λ v. get_or l.neighbours v 0) l.set l.rest l.front
+
+abbrev pub decreases-loop-set : goal.decreases-loop-set
+decreases-loop-set l = size l.front + size l.rest

@@ -1,0 +1,17 @@
+use Prim.Native.Nat.{◌-◌}
+use native.Mathlib.Omega.{arith}
+use borrow.Author.Rules.{rules}
+use Rattle.bounded.proofs.Settled.{settled_none, settled_more}
+use Rattle.connected.specs.Spreading.{neighbours}
+use Rattle.connected.proofs.neighbours.Goals as goal
+
+pub loop-v-init : goal.loop-v-init
+loop-v-init c = (search rules, settled_none _ _)
+
+pub loop-v-preserved : goal.loop-v-preserved
+loop-v-preserved c = (search rules, settled_more _ _ c.loop-v.invariant.1 c.loop-v-test.true c.neighbours_of.ensures)
+
+pub returns : goal.returns
+returns c =
+    let s = c.loop-v.invariant.1 in
+    record { entries = s.entries; word = λ v h. s.settled v (omega (arith, h, c.loop-v-test.false)) }
