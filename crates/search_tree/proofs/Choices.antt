@@ -77,7 +77,8 @@ rising_behind : (c : ℕ) (l rest : List ℕ) → Rising l → l ≡ c ∷ rest 
 unfolding above
 rising_behind c [] rest r e = absurd (nil≢cons e)
 rising_behind c (a ∷ l) rest r e =
-    rw (← head-eq_of_cons-eq e, le-ltb a a (omega arith), above_all a l r.0) (tail-eq_of_cons-eq e)
+    let same : a ≡ c = head-eq_of_cons-eq e in
+    rw (le-ltb c a (omega arith), above_all c l (λ b m. let h : a < b = r.0 b m in omega arith)) (tail-eq_of_cons-eq e)
 
 -- behind the first number above w stand those above that one
 rising_next : (w c : ℕ) (l rest : List ℕ) → Rising l → above w l ≡ c ∷ rest → above c l ≡ rest
