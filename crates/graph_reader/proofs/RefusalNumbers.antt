@@ -85,6 +85,7 @@ pub never_6 : (labels edges bytes : List ℕ) → refusal_number (reading labels
 never_6 labels edges bytes = go (reading labels edges bytes).answer (reading_valued labels edges bytes)
   where
     go : (a : Answer) → Valued a → refusal_number a ≢ 6
+    go passed v e = elim v [ ]
     go (accepted n) v e = omega (arith, e)
     go (refused number) v e = omega (arith, v.3, e)
     go (refused_at number at) v e = omega (arith, v.3, e)
