@@ -27,10 +27,10 @@ cutoff_counted n number c =
     ⊎_elim (λ taken. taken.1 ∙ rw taken.0) (λ left. left.1 ∙ rw left.0)
 
 -- the test of the count, as a fact
-count_fits : (finished : Bool) (count limit : ℕ) → T (finished || ltb count limit) → finished ≡ false → count < limit
-count_fits true count limit fits e = absurd (true≢false e)
-count_fits false count limit fits e = ltb-true count limit (is_true (ltb count limit) fits)
+count_fits_lem : (finished : Bool) (count limit : ℕ) → T (finished || ltb count limit) → finished ≡ false → count < limit
+count_fits_lem true count limit fits e = absurd (true≢false e)
+count_fits_lem false count limit fits e = ltb-true count limit (is_true (ltb count limit) fits)
 
 -- The steps of a checkpoint count with the budget.
 pub start_count : (c : Checkpoint) (budget : ℕ) → T (count_fits c budget) → CountFits c budget
-start_count c budget fits = count_fits c.finished (c.steps + budget) (2 ^ 64) fits
+start_count c budget fits = count_fits_lem c.finished (c.steps + budget) (2 ^ 64) fits

@@ -382,6 +382,15 @@ pub visits_moved : {connected : Bool} {n : ℕ} {edges masks ws ws' incumbent' p
     → Moves connected n edges w ws holds' incumbent' cutoff' path' r
     → Visits connected n edges masks w ws
     (record { checkpoint = stepped w.checkpoint r path' holds' incumbent'; pairs = r.pairs; cutoff = cutoff'; bound = bound' }) ws'
-visits_moved w busy same bounded (left why back) = visits_left w busy same bounded refl why back
-visits_moved w busy same bounded (held high last may back) = visits_held w busy same bounded refl high last may back
-visits_moved w busy same bounded (down high inner first) = visits_down w busy same bounded refl high inner first
+visits_moved {connected = connected} {n = n} {edges = edges} {masks = masks} {ws = ws} {ws' = ws'} w busy same bounded moves = go moves busy same bounded
+  where
+    go : {incumbent' path' : List ℕ} {holds' : Bool} {cutoff' bound' : ℕ} {r : Place}
+        → Moves connected n edges w ws holds' incumbent' cutoff' path' r
+        → w.checkpoint.finished ≡ false → length ws' ≡ length ws
+        → ((P : Problem) → Setting P P.old.order edges masks → AtNode P path' r.depth r.pairs ws
+        → Bounded P path' r.depth cutoff' ws' bound') × (bound' < 2 ^ 64 - 1)
+        → Visits connected n edges masks w ws
+        (record { checkpoint = stepped w.checkpoint r path' holds' incumbent'; pairs = r.pairs; cutoff = cutoff'; bound = bound' }) ws'
+    go (left why back) busy same bounded = visits_left w busy same bounded refl why back
+    go (held high last may back) busy same bounded = visits_held w busy same bounded refl high last may back
+    go (down high inner first) busy same bounded = visits_down w busy same bounded refl high inner first

@@ -1,0 +1,13 @@
+-- `search::ceiling::later_top` meets its contract: level by level the later siblings are counted or passed over (`LaterTop`). A level's
+-- bounds are made in the level after it, which is not needed any more.
+-- Assumes nothing.
+use Prim.Native.Nat.{◌-◌}
+use Rattle.search.proofs.LaterTop.{LevelsHead}
+use Rattle.search.proofs.ceiling.later_top.Given as goal
+
+abbrev pub invariant-loop-k : goal.invariant-loop-k
+invariant-loop-k l =
+    LevelsHead l.edges l.masks l.path l.initial.workspace l.workspace l.depth l.pairs l.least l.k l.left l.top
+
+abbrev pub decreases-loop-k : goal.decreases-loop-k
+decreases-loop-k l = l.k
