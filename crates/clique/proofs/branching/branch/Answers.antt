@@ -9,17 +9,13 @@ use Rattle.clique.specs.LentRules.{lent_rules}
 use Rattle.clique.specs.Carried.{incumbent_as}
 use Rattle.clique.proofs.Carried.{decided_none}
 use borrow.Author.Rules.{rules}
-use Rattle.clique.proofs.branching.branch.Statement.{statement}
-use Rattle.clique.proofs.branching.branch.Tie as tie
+use Rattle.clique.proofs.branching.branch.Goals as goal
 
-branch-row-requires : tie.Need-branch-row-requires
-branch-row-requires c κs = search (rules, decided_none)
+pub branch_row-requires : goal.branch_row-requires
+branch_row-requires c = search (rules, decided_none)
 
-returns : tie.Need-returns
+pub returns : goal.returns
 returns c =
-    let a = c.before.args in
-    c.Branch-row.ensures a.minimum none refl
+    let a = c.args in
+    c.branch_row.ensures a.minimum none refl
     ∙ ap (λ (n : ℕ). incumbent_as a.minimum (branch_row (lent_rules a.orders a.allowed.now a.edges) a.minimum (2 * n) [] none)) (sub-zero _)
-
-pub branch_spec : {M : Type 1} → statement M
-branch_spec = tie.close (tie.spec branch-row-requires returns)

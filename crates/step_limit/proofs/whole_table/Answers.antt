@@ -1,12 +1,8 @@
 -- `step_limit::whole_table` meets its contract: antt computes the test of the recurrence over the whole table. Assumes nothing.
 use mathlib.Core.Path.{refl}
 use Rattle.step_limit.proofs.WholeTable.{follows, recurrent, test_recurrence}
-use Rattle.step_limit.proofs.whole_table.Statement.{statement}
-use Rattle.step_limit.proofs.whole_table.Tie as tie
+use Rattle.step_limit.proofs.whole_table.Goals as goal
 
-returns : tie.Need-returns
+pub returns : goal.returns
 unfolding follows recurrent
 returns c = test_recurrence _ refl refl
-
-pub whole_table_spec : {M : Type 1} → statement M
-whole_table_spec = tie.close (tie.spec returns)
