@@ -92,8 +92,8 @@ module _ (connected : Bool) (P : Problem) (sound : SoundProblem P) (floor : ℕ)
 
   arrived_from : {a : Left} → Arrived a → (calls : List Call) → Arrived (left_from connected P floor a calls)
   unfolding left_from
-  arrived_from arrived [] = arrived
-  arrived_from arrived (call ∷ later) = arrived_from (arrived_by arrived call) later
+  arrived_from {a = a} arrived [] = arrived
+  arrived_from {a = a} arrived (call ∷ later) = arrived_from {a = left_by connected P floor a call} (arrived_by arrived call) later
 
   -- From the start, the calls leave the descent after their summed budgets.
   arrived_after : (calls : List Call) → Arrived (left_after connected P floor calls)
