@@ -1,15 +1,12 @@
 -- The text of a search call's answer, by its cases: the lines of a ceiling, and the line of any other's number.
 use mathlib.Core.Path.{◌≡◌, refl, sym, ap, ◌∙◌}
-use mathlib.Core.List.{[], ◌∷◌, ◌++◌}
+use mathlib.Core.List.{◌++◌}
 use Prim.Native.Nat.{ℕ}
 use lib.ListN.{take}
-use denote.Enum.Declared.{tag_of}
-use types.Run.{OneOf, miss}
 use Rattle.answers.specs.Answer.{refusal_number}
 use Rattle.checkpoint.specs.declared.Checkpoint.{Checkpoint}
 use Rattle.search.specs.declared.SearchAnswer.{SearchAnswer}
 use Rattle.search.specs.Answers.{search_answer}
-use Rattle.search.specs.contracts.SearchAnswer.{the_type}
 use Rattle.refit_text.specs.Report.{head_lines, incumbent_lines, accepted_text, refused_text, report_text}
 
 module _ (n m : ℕ) (c : Checkpoint) (r : SearchAnswer) where
@@ -20,15 +17,15 @@ module _ (n m : ℕ) (c : Checkpoint) (r : SearchAnswer) where
   ceiling_text ceiling e = ap (λ (x : SearchAnswer). report_text n m (search_answer x) c) (sym e)
 
 -- an answer of the arm `_`, which is no ceiling
-other_text : (n m : ℕ) (c : Checkpoint) (r : SearchAnswer) → OneOf (1 ∷ 2 ∷ 3 ∷ 4 ∷ []) (tag_of the_type r)
+other_text : (n m : ℕ) (c : Checkpoint) (r : SearchAnswer) → ((ceiling : ℕ) → r ≡ SearchAnswer.Ceiling ceiling → ⊥)
     → refused_text (refusal_number (search_answer r)) ≡ report_text n m (search_answer r) c
-other_text n m c (SearchAnswer.Ceiling ceiling) k = absurd (miss (1 ∷ 2 ∷ 3 ∷ 4 ∷ []) 0 tt k)
+other_text n m c (SearchAnswer.Ceiling ceiling) k = absurd (k ceiling refl)
 other_text n m c (SearchAnswer.Flawed flaw) k = refl
 other_text n m c SearchAnswer.OutOfShape k = refl
 other_text n m c SearchAnswer.FewWords k = refl
 other_text n m c SearchAnswer.ManySteps k = refl
 
 -- The line of a refusal's number is the text of the answer.
-pub refusal_text : (n m : ℕ) (c : Checkpoint) (r : SearchAnswer) → OneOf (1 ∷ 2 ∷ 3 ∷ 4 ∷ []) (tag_of the_type r)
+pub refusal_text : (n m : ℕ) (c : Checkpoint) (r : SearchAnswer) → ((ceiling : ℕ) → r ≡ SearchAnswer.Ceiling ceiling → ⊥)
     → (number : ℕ) → number ≡ refusal_number (search_answer r) → refused_text number ≡ report_text n m (search_answer r) c
-refusal_text n m c r keys number e = ap refused_text e ∙ other_text n m c r keys
+refusal_text n m c r other number e = ap refused_text e ∙ other_text n m c r other
