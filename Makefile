@@ -21,7 +21,7 @@ number = $(shell sed -n 's/^\#define GOLFCEDAR_VERSION_$(1) //p' include/golfced
 MAJOR := $(call number,MAJOR)
 VERSION := $(MAJOR).$(call number,MINOR).$(call number,PATCH)
 
-STATIC = target/staticlib/libc_api.a
+STATIC = crates/c_api/out/libc_api.a
 SONAME = libgolfcedar.so.$(MAJOR)
 SHARED = target/lib/$(SONAME)
 MODULE = $(wildcard python/golfcedar/*.py) python/golfcedar/py.typed
@@ -32,8 +32,8 @@ MODULE = $(wildcard python/golfcedar/*.py) python/golfcedar/py.typed
 
 library: $(SHARED)
 
-$(STATIC): crates.txt $(shell find crates -name '*.rt' -o -name '*.antt')
-	rt staticlib c_api
+$(STATIC): crates.txt $(shell find crates -name out -prune -o \( -name '*.rt' -o -name '*.antt' \) -print)
+	cd crates/c_api && rt lib
 	touch $@
 
 # Only the functions of the header are exported.

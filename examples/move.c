@@ -6,7 +6,7 @@
  * OLD is a file of edition 1, MOVED one of edition 2: the first of the two is read, and the same
  * graph is written to the second. To build it:
  *
- *     cc -Iinclude examples/move.c target/staticlib/libc_api.a -o move
+ *     cc -Iinclude examples/move.c crates/c_api/out/libc_api.a -o move
  *
  * A file moves back only if each of its labels fits a byte. The file that is written has to be a
  * new one: a file that is there already is never overwritten, and a run that fails writes none.

@@ -8,7 +8,7 @@
  * either way for BUDGET visits. The file is saved, and what the search says so far is printed. To
  * build it:
  *
- *     cc -Iinclude examples/resume.c target/staticlib/libc_api.a -o resume
+ *     cc -Iinclude examples/resume.c crates/c_api/out/libc_api.a -o resume
  *
  * With `--connected` only mappings are looked for whose old vertices hang together by edges among
  * themselves. Either every run gives it, or none does.

@@ -1,5 +1,5 @@
 //! Links the proved search: `libc_api.a`, in the folder that GOLFCEDAR_LIB names, else in
-//! `../target/staticlib`.
+//! `../crates/c_api/out`.
 
 use std::env;
 use std::path::PathBuf;
@@ -8,7 +8,7 @@ fn main() {
     let manifest = PathBuf::from(env::var("CARGO_MANIFEST_DIR").unwrap());
     let folder = match env::var("GOLFCEDAR_LIB") {
         Ok(folder) => PathBuf::from(folder),
-        Err(_) => manifest.join("../target/staticlib"),
+        Err(_) => manifest.join("../crates/c_api/out"),
     };
     let archive = folder.join("libc_api.a");
     assert!(

@@ -1,6 +1,6 @@
 /* Golfcedar: the largest common subgraph of two labelled graphs, or the largest connected one, by a proved search that can be stopped and resumed.
  *
- * Link with libgolfcedar (`make library`, `make install`), or with libc_api.a (`rt staticlib c_api`), which has the same functions. Every function here is
+ * Link with libgolfcedar (`make library`, `make install`), or with libc_api.a (`rt lib` in crates/c_api), which has the same functions. Every function here is
  * proved against a definition: docs/PROMISES.md, "The library to link", names each.
  *
  * Graphs, substitutes, mappings and checkpoints are plain bytes; README.md has their forms. The caller owns every buffer: nothing is kept after
