@@ -2,7 +2,6 @@
 use mathlib.Core.Path.{◌≡◌, refl, sym, ap, ◌∙◌}
 use mathlib.Core.Bool.{Bool, true, false, true≢false}
 use mathlib.Core.List.{List, [], ◌∷◌}
-use mathlib.Core.Logic.{inl, inr}
 use Prim.Native.Nat.{ℕ, ◌+◌, ◌-◌, ◌^◌, ◌≤◌, ◌<◌}
 use native.Mathlib.Omega.{arith}
 use native.Mathlib.Nat.{zero-add, add_assoc}
@@ -48,14 +47,6 @@ fresh_long minimum = padded_length [] (omega arith)
 pub fresh_minimum : {c : Checkpoint} (minimum : ℕ) → c ≡ fresh_checkpoint minimum → c.minimum ≡ minimum
 unfolding checkpoint_of
 fresh_minimum minimum e = ap (λ (c : Checkpoint). c.minimum) e
-
--- an answer that is no ceiling has one of the other tags
-pub other_tag : (a : SearchAnswer) → ((top : ℕ) → a ≡ SearchAnswer.Ceiling top → ⊥) → OneOf (1 ∷ 2 ∷ 3 ∷ 4 ∷ []) (tag_of search-tags.the_type a)
-other_tag (SearchAnswer.Ceiling n) other = absurd (other n refl)
-other_tag (SearchAnswer.Flawed f) other = inl refl
-other_tag SearchAnswer.OutOfShape other = inr (inl refl)
-other_tag SearchAnswer.FewWords other = inr (inr (inl refl))
-other_tag SearchAnswer.ManySteps other = inr (inr (inr refl))
 
 -- the arm `_`: 1 to 4 are the tags of the answers that are no ceiling
 pub no_ceiling : (a : SearchAnswer) (top : ℕ) → OneOf (1 ∷ 2 ∷ 3 ∷ 4 ∷ []) (tag_of search-tags.the_type a) → search_answer a ≡ accepted top → ⊥

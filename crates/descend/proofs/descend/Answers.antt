@@ -6,7 +6,7 @@ use borrow.Author.Rules.{rules}
 use lib.ListN.{length-map}
 use Rattle.descend.proofs.OneSearch.{Exhausted, exhausted_facts}
 use Rattle.descend.proofs.LoopTurn.{fresh_minimum, going_all, turn_steps, turn_refused, turn_accepted, turn_minimum, turn_ends, turn_renews}
-use Rattle.descend.proofs.LoopTurn.{other_tag}
+use Rattle.search.proofs.SearchTags.{other_search}
 use Rattle.descend.proofs.descend.Goals as goal
 use Rattle.descend.proofs.descend.Goals.{After-search-searched, Else-not-is_exhausted}
 
@@ -75,4 +75,4 @@ shape_of-workspace-in_default c =
 
 pub returns-in_default : goal.returns-in_default
 returns-in_default c =
-    turn_refused c.loop-top.invariant c.search-searched.result _ c.search-searched.ensures (other_tag _ c.in_default.not-Ceiling)
+    turn_refused c.loop-top.invariant c.search-searched.result _ c.search-searched.ensures (other_search _ c.in_default.not-Ceiling)

@@ -11,7 +11,7 @@ use Rattle.search_tree.specs.Rules.{rules_of}
 use Rattle.search_tree.specs.Node.{upper_bound}
 use Rattle.search.specs.Call.{words_needed}
 use Rattle.descend.proofs.StartCall.{start_refused, start_sound, start_accepted}
-use Rattle.descend.proofs.LoopTurn.{other_tag}
+use Rattle.search.proofs.SearchTags.{other_search}
 use Rattle.descend.proofs.start.Goals as goal
 use Rattle.descend.proofs.start.Goals.{In-Ceiling}
 
@@ -43,4 +43,4 @@ returns-in-Ceiling c =
 
 pub returns-in_default : goal.returns-in_default
 returns-in_default c =
-    start_refused (lent c.args.orders c.args.labels c.args.edges c.args.substitutes.now) c.args.floor words room c.search-root.result _ _ c.fresh.ensures c.search-root.ensures (other_tag _ c.in_default.not-Ceiling) _ c.fresh-in_default.ensures
+    start_refused (lent c.args.orders c.args.labels c.args.edges c.args.substitutes.now) c.args.floor words room c.search-root.result _ _ c.fresh.ensures c.search-root.ensures (other_search _ c.in_default.not-Ceiling) _ c.fresh-in_default.ensures
