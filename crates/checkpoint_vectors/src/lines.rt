@@ -3,54 +3,47 @@
 use checkpoint::Checkpoint;
 use checkpoint_loader::LoadAnswer;
 use checkpoint_saver::SaveAnswer;
-use libc::STDOUT_FILENO;
+use std::io;
 
-pub fn word(text: &[u8]) {
-    io::write_all(STDOUT_FILENO, text);
+pub fn word(rt: &impl Print, text: &[u8]) -> io::Result<()> {
+    rt.write_all(text)
 }
 
-fn number(text: &[u8], n: u64) {
-    word(text);
-    io::print_decimal(STDOUT_FILENO, n);
+fn number(rt: &impl Print, text: &[u8], n: u64) -> io::Result<()> {
+    word(rt, text)?;
+    print!(rt; "{n}")
 }
 
-fn refused(n: u8) {
-    number(b": refused ", n as u64);
+fn refused(rt: &impl Print, n: u8) -> io::Result<()> {
+    number(rt, b": refused ", n as u64)
 }
 
-pub fn loaded(answer: LoadAnswer) {
+pub fn loaded(rt: &impl Print, answer: LoadAnswer) -> io::Result<()> {
     match answer {
-        LoadAnswer::InShape => {
-            word(b": loaded");
-        }
+        LoadAnswer::InShape => word(rt, b": loaded"),
         LoadAnswer::Malformed(at) => {
-            refused(checkpoint_loader::load_number(answer));
-            number(b" ", at as u64);
+            refused(rt, checkpoint_loader::load_number(answer))?;
+            number(rt, b" ", at as u64)
         }
-        _ => {
-            refused(checkpoint_loader::load_number(answer));
-        }
+        _ => refused(rt, checkpoint_loader::load_number(answer)),
     }
 }
 
-pub fn checkpoint(c: Checkpoint) {
-    number(b", minimum ", c.minimum as u64);
-    number(b", steps ", c.steps);
-    number(b", depth ", c.depth as u64);
+pub fn checkpoint(rt: &impl Print, c: Checkpoint) -> io::Result<()> {
+    number(rt, b", minimum ", c.minimum as u64)?;
+    number(rt, b", steps ", c.steps)?;
+    number(rt, b", depth ", c.depth as u64)?;
     number(
+        rt,
         b", state ",
         checkpoint_saver::state_byte(c.finished, c.holds) as u64,
-    );
+    )
 }
 
-pub fn saved(answer: SaveAnswer) {
+pub fn saved(rt: &impl Print, answer: SaveAnswer) -> io::Result<()> {
     match answer {
-        SaveAnswer::Written(count) => {
-            number(b": saved ", count as u64);
-        }
-        _ => {
-            refused(checkpoint_saver::save_number(answer));
-        }
+        SaveAnswer::Written(count) => number(rt, b": saved ", count as u64),
+        _ => refused(rt, checkpoint_saver::save_number(answer)),
     }
 }
 
@@ -70,10 +63,10 @@ fn same(bytes: &[u8], buffer: &[u8]) -> bool {
     true
 }
 
-pub fn compared(bytes: &[u8], buffer: &[u8]) {
+pub fn compared(rt: &impl Print, bytes: &[u8], buffer: &[u8]) -> io::Result<()> {
     if same(bytes, buffer) {
-        word(b", the same bytes");
+        word(rt, b", the same bytes")
     } else {
-        word(b", other bytes");
+        word(rt, b", other bytes")
     }
 }

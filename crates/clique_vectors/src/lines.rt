@@ -1,46 +1,51 @@
 // A line of the output: the case's name, and the mapping that is held, or none, or the refusal's number.
 
 use clique::{Branched, CliqueAnswer};
-use libc::STDOUT_FILENO;
+use std::io;
 
-pub fn word(text: &[u8]) {
-    io::write_all(STDOUT_FILENO, text);
+pub fn word(rt: &impl Print, text: &[u8]) -> io::Result<()> {
+    rt.write_all(text)
 }
 
-fn number(n: u8) {
-    word(b" ");
-    io::print_decimal(STDOUT_FILENO, n as u64);
+fn number(rt: &impl Print, n: u8) -> io::Result<()> {
+    print!(rt; " {n}")
 }
 
 // A byte for each old vertex, and the bytes left over.
-fn mapping(bytes: [u8; 8], order: usize) {
-    word(b"mapping");
+fn mapping(rt: &impl Print, bytes: [u8; 8], order: usize) -> io::Result<()> {
+    word(rt, b"mapping")?;
     let mut i = 0;
     while i < 8 {
         if i == order {
-            word(b", rest");
+            word(rt, b", rest")?;
         }
-        number(bytes[i]);
+        number(rt, bytes[i])?;
         i += 1;
     }
+    Ok(())
 }
 
-pub fn write_line(name: &[u8], branched: Branched, order: usize) {
+pub fn write_line(
+    rt: &impl Print,
+    name: &[u8],
+    branched: Branched,
+    order: usize,
+) -> io::Result<()> {
     let answer = branched.answer;
     let bytes = branched.mapping;
-    word(name);
-    word(b": ");
+    word(rt, name)?;
+    word(rt, b": ")?;
     match answer {
         CliqueAnswer::Held => {
-            mapping(bytes, order);
+            mapping(rt, bytes, order)?;
         }
         CliqueAnswer::NothingHeld => {
-            word(b"none");
+            word(rt, b"none")?;
         }
         _ => {
-            word(b"refused");
-            number(clique::clique_number(answer));
+            word(rt, b"refused")?;
+            number(rt, clique::clique_number(answer))?;
         }
     }
-    word(b"\n");
+    word(rt, b"\n")
 }

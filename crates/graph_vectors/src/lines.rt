@@ -3,27 +3,21 @@
 ghost use Rattle.std.specs.Prelude.{◌≤◌, length};
 
 use graph::{Flaw, Label};
-use libc::STDOUT_FILENO;
+use std::io;
 
-pub fn say(text: &[u8]) {
-    io::write_all(STDOUT_FILENO, text);
+pub fn say(rt: &impl Print, text: &[u8]) -> io::Result<()> {
+    rt.write_all(text)
 }
 
-pub fn say_number(n: usize) {
-    io::print_decimal(STDOUT_FILENO, n as u64);
+pub fn say_number(rt: &impl Print, n: usize) -> io::Result<()> {
+    print!(rt; "{n}")
 }
 
-pub fn say_flaw(flaw: Flaw) {
+pub fn say_flaw(rt: &impl Print, flaw: Flaw) -> io::Result<()> {
     match flaw {
-        Flaw::Tables => {
-            say(b": 10");
-        }
-        Flaw::Labels => {
-            say(b": 11");
-        }
-        Flaw::Edges => {
-            say(b": 12");
-        }
+        Flaw::Tables => say(rt, b": 10"),
+        Flaw::Labels => say(rt, b": 11"),
+        Flaw::Edges => say(rt, b": 12"),
     }
 }
 
@@ -63,33 +57,35 @@ pub fn labels_used(labels: &[Label]) -> usize
     count
 }
 
-fn say_byte(byte: u8) {
-    say(b" ");
-    say_number(byte as usize);
+fn say_byte(rt: &impl Print, byte: u8) -> io::Result<()> {
+    say(rt, b" ")?;
+    say_number(rt, byte as usize)
 }
 
-fn say_label(label: Label) {
-    say(b" ");
-    say_number(label as usize);
+fn say_label(rt: &impl Print, label: Label) -> io::Result<()> {
+    say(rt, b" ")?;
+    say_number(rt, label as usize)
 }
 
 // The first `count` bytes, or all where there are fewer; and so for labels.
-pub fn say_bytes(bytes: &[u8], count: usize) {
+pub fn say_bytes(rt: &impl Print, bytes: &[u8], count: usize) -> io::Result<()> {
     let mut i = 0;
     while i < bytes.len() {
         if i < count {
-            say_byte(bytes[i]);
+            say_byte(rt, bytes[i])?;
         }
         i += 1;
     }
+    Ok(())
 }
 
-pub fn say_labels(labels: &[Label], count: usize) {
+pub fn say_labels(rt: &impl Print, labels: &[Label], count: usize) -> io::Result<()> {
     let mut v = 0;
     while v < labels.len() {
         if v < count {
-            say_label(labels[v]);
+            say_label(rt, labels[v])?;
         }
         v += 1;
     }
+    Ok(())
 }

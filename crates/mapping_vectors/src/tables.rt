@@ -4,7 +4,7 @@ ghost use Rattle.std.specs.Prelude.{◌≡◌, ◌≤◌, length};
 
 use graph::Label;
 use graph_reader::ReadAnswer;
-use libc::STDOUT_FILENO;
+use std::io;
 
 // What is wrong with the tables. The graphs here that are harmed have fewer than 64 vertices, and at least one.
 #[derive(Clone, Copy)]
@@ -25,41 +25,52 @@ pub enum Harm {
 }
 
 // The graph's order. Bytes that hold no graph are told of in the output.
-fn read(bytes: &[u8], labels: &mut [Label], edges: &mut [u8]) -> usize {
+fn read(
+    rt: &impl Print,
+    bytes: &[u8],
+    labels: &mut [Label],
+    edges: &mut [u8],
+) -> io::Result<usize> {
     match graph_reader::read_graph(bytes, labels, edges) {
-        ReadAnswer::Order(order) => order,
+        ReadAnswer::Order(order) => Ok(order),
         ReadAnswer::Tables => {
-            io::write_all(STDOUT_FILENO, b"no tables\n");
-            0
+            println!(rt; "no tables")?;
+            Ok(0)
         }
         ReadAnswer::Refused(_, _) => {
-            io::write_all(STDOUT_FILENO, b"no graph\n");
-            0
+            println!(rt; "no graph")?;
+            Ok(0)
         }
     }
 }
 
 // Fills the tables, and answers with the order to lend.
-pub fn fill(bytes: &[u8], harm: Harm, labels: &mut [Label], edges: &mut [u8]) -> usize
+pub fn fill(
+    rt: &impl Print,
+    bytes: &[u8],
+    harm: Harm,
+    labels: &mut [Label],
+    edges: &mut [u8],
+) -> io::Result<usize>
     requires { (length labels.old ≡ 64) × (length edges.old ≡ 4096) }
 {
-    let order = read(bytes, labels, edges);
+    let order = read(rt, bytes, labels, edges)?;
     match harm {
-        Harm::Sound => order,
-        Harm::Order => 65,
-        Harm::ShortLabels => order,
-        Harm::ShortEdges => order,
+        Harm::Sound => Ok(order),
+        Harm::Order => Ok(65),
+        Harm::ShortLabels => Ok(order),
+        Harm::ShortEdges => Ok(order),
         Harm::Label => {
             labels[63] = 9;
-            order
+            Ok(order)
         }
         Harm::NoLabel => {
             labels[0] = 0;
-            order
+            Ok(order)
         }
         Harm::Edge => {
             edges[4095] = 1;
-            order
+            Ok(order)
         }
     }
 }

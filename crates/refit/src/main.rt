@@ -2,51 +2,52 @@
 
 #![tactic(auto)]
 
-ghost use Rattle.io.specs.Counts.{IsPrefixLen};
+ghost use Rattle.refit.specs.Counts.{IsPrefixLen};
 
-use libc::{STDIN_FILENO, STDOUT_FILENO};
 use refit_text::MAX_TEXT;
+use std::io::Read;
+use std::rt::Files;
+use std::{fs, io};
 
 // Reads until `buf` is full or the input ends. Returns how many bytes stand at its front: none where a read fails.
-fn read_all(fd: i32, buf: &mut [u8]) -> usize
+fn read_all<R: Read>(input: &mut R, buf: &mut [u8]) -> usize
     ensures { IsPrefixLen result buf.new }
 {
     let mut done = 0;
     while done < buf.len() {
-        let got = libc::read(fd, &mut buf[done..]);
-        if got < 0 {
-            return 0;
+        match input.read(&mut buf[done..]) {
+            Err(_) => {
+                return 0;
+            }
+            Ok(0) => {
+                return done;
+            }
+            Ok(more) => {
+                done += more;
+            }
         }
-        let more = io::count(got, &buf[done..]);
-        if more == 0 {
-            return done;
-        }
-        done += more;
     }
     done
 }
 
 // The same of a file, and none where it can't be opened.
-fn read_file(path: &[u8], buf: &mut [u8]) -> usize
+fn read_file(rt: &impl Files, path: &str, buf: &mut [u8]) -> usize
     ensures { IsPrefixLen result buf.new }
 {
-    let fd = os::open_read(path);
-    if fd < 0 {
-        return 0;
+    match fs::open(rt, path) {
+        Err(_) => 0,
+        Ok(mut file) => read_all(&mut file, buf),
     }
-    let count = read_all(fd, buf);
-    libc::close(fd);
-    count
 }
 
-fn main() {
+fn main(rt: HostRuntime) -> io::Result<()> {
     let mut old = [0u8; 8520];
-    let old_count = read_file(b"old.chart", &mut old);
+    let old_count = read_file(&rt, "old.chart", &mut old);
     let mut new = [0u8; 8520];
-    let new_count = read_file(b"new.chart", &mut new);
+    let new_count = read_file(&rt, "new.chart", &mut new);
     // a tenth byte tells more than nine from nine
     let mut input = [0u8; 10];
-    let input_count = read_all(STDIN_FILENO, &mut input);
+    let input_count = read_all(&mut rt.reader(), &mut input);
     let mut out = [0u8; MAX_TEXT];
     let count = refit_text::refit(
         &old[..old_count],
@@ -54,5 +55,5 @@ fn main() {
         &input[..input_count],
         &mut out,
     );
-    io::write_all(STDOUT_FILENO, &out[..count]);
+    rt.write_all(&out[..count])
 }
