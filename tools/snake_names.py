@@ -93,7 +93,7 @@ def main():
         new = TOKEN.sub(lambda m: turn.get(m[0], m[0]), t)
         if new != t:
             p.write_text(new, encoding="utf-8")
-    pages = [pathlib.Path("README.md"), *sorted(pathlib.Path("docs").rglob("*.md"))]
+    pages = [pathlib.Path("README.md"), *sorted(pathlib.Path("docs").glob("*.md"))]
     for p in pages:
         t = p.read_text(encoding="utf-8")
         new = re.sub(r"`([^`\n]*)`", lambda s: "`" + TOKEN.sub(lambda m: turn.get(m[0], m[0]), s[1]) + "`", t)

@@ -11,8 +11,7 @@ use Rattle.answers.specs.Answer.{accepted, refused}
 use Rattle.problem.specs.Problem.{Problem, SoundProblem}
 use Rattle.search_tree.specs.Rules.{rules_of}
 use Rattle.search_tree.specs.Search.{Search, search_of}
-use Rattle.search_tree.specs.Walk.{State, fresh}
-use Rattle.search_tree.specs.Ceiling.{ceiling}
+use Rattle.search_tree.specs.Walk.{State}
 use Rattle.checkpoint.specs.declared.Checkpoint.{Checkpoint}
 use Rattle.checkpoint.specs.Checkpoints.{has_incumbent, fresh_checkpoint, checkpoint_of, state_of}
 use Rattle.checkpoint.proofs.CheckpointState.{state_of_checkpoint}

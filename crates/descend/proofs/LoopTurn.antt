@@ -24,7 +24,7 @@ use Rattle.search.specs.Call.{Called, cleared, refuse, search_call}
 use Rattle.search.specs.contracts.SearchAnswer as search-tags
 use Rattle.search.proofs.CallRefusals.{Taken, CallWays, refuses, accepts, call_ways}
 use Rattle.descend.specs.Descent.{is_exhausted, lowered, descent_ceiling}
-use Rattle.descend.specs.Call.{Descended, arrive, descend_call}
+use Rattle.descend.specs.Call.{Descended, descend_call}
 use Rattle.descend.proofs.CallTurn as CallTurn
 use Rattle.descend.proofs.CallTurn.{
   plus,

@@ -1,11 +1,11 @@
 -- So many visits of a descent, by those of the search that it is in: they stay in that search, or exhaust it, and what is left of them is made one lower.
 use mathlib.Core.Path.{◌≡◌, refl, sym, ap, ◌∙◌}
-use mathlib.Core.Bool.{Bool, true, false, cond, not, true≢false, false≢true}
+use mathlib.Core.Bool.{Bool, true, false, cond, true≢false, false≢true}
 use Prim.Native.Nat.{ℕ, zero, suc, ◌+◌, ◌-◌, ◌≤◌, ◌<◌}
 use native.Mathlib.Omega.{arith}
 use borrow.Author.Tests.{ltb-true}
 use Rattle.search_tree.specs.Search.{Search}
-use Rattle.search_tree.specs.Walk.{State, visit}
+use Rattle.search_tree.specs.Walk.{State}
 use Rattle.search_tree.proofs.Steps.{visit_steps, visit_finished}
 use Rattle.checkpoint.specs.Checkpoints.{has_incumbent}
 use Rattle.search.specs.Call.{visits}

@@ -1,7 +1,7 @@
 -- Where a descent of a sound problem stands: in a walk from its minimum; so once it is done it holds the best from the floor on. From the start on, no mapping that
 -- counts has more pairs than the minimum; so what it holds has just as many, and its ceiling is above every mapping that counts and never rises.
 use mathlib.Core.Path.{◌≡◌, refl, sym, ap, ◌∙◌}
-use mathlib.Core.Bool.{Bool, true, false, cond, not, true≢false, false≢true}
+use mathlib.Core.Bool.{Bool, true, false, cond, true≢false, false≢true}
 use mathlib.Core.List.{List}
 use mathlib.Core.Option.{Option, none, some}
 use Prim.Native.Nat.{ℕ, zero, suc, ◌+◌, ◌-◌, ◌≤◌, ◌<◌, min, max}

@@ -11,9 +11,9 @@ use Rattle.graph_reader.proofs.ReadSound.{reading_sound}
 use Rattle.graph_reader.proofs.RefusalNumbers.{reading_valued}
 use Rattle.substitutes.specs.Soundness.{substitutes_answer}
 use Rattle.substitutes.proofs.SoundList.{none_sound, list_plain}
-use Rattle.problem.specs.Problem.{Problem, problem, substituting, problem_answer}
+use Rattle.problem.specs.Problem.{problem, substituting, problem_answer}
 use Rattle.problem.proofs.ProblemPasses.{list_last, problem_passes}
-use Rattle.problem_reader.specs.ProblemReading.{ReadOutcome, read, on_order, reading_problem, read_problem}
+use Rattle.problem_reader.specs.ProblemReading.{read, on_order, reading_problem, read_problem}
 use Rattle.replies.specs.Reply.{reply_of}
 use Rattle.inputs.specs.Judging.{first_at_fault, judging, first_test}
 

@@ -1,20 +1,16 @@
 -- The numbers that a call counts of its checkpoint: the cutoff, and the steps with the budget.
-use mathlib.Core.Path.{◌≡◌, refl, sym, ap, ◌∙◌}
+use mathlib.Core.Path.{◌≡◌, ◌∙◌}
 use mathlib.Core.Logic.{◌⊎◌, ⊎_elim}
-use mathlib.Core.Bool.{Bool, true, false, cond, ◌||◌, true≢false}
-use mathlib.Core.List.{List}
-use mathlib.Core.Option.{none, some}
+use mathlib.Core.Bool.{Bool, true, false, ◌||◌, true≢false}
 use Prim.Native.Nat.{ℕ, ◌+◌, ◌^◌, ◌<◌}
 use lib.Dec.{T, ltb}
-use lib.ListN.{length, take}
+use lib.ListN.{take}
 use borrow.Author.Tests.{ltb-true}
 use denote.Floats.{is_true}
-use Rattle.problem.specs.Problem.{Problem}
 use Rattle.mapping.specs.Common.{size}
 use Rattle.search_tree.specs.Walk.{cutoff}
-use Rattle.search.specs.declared.walk.Walk.{Walk}
 use Rattle.checkpoint.specs.declared.Checkpoint.{Checkpoint}
-use Rattle.checkpoint.specs.Checkpoints.{state_of, InShape}
+use Rattle.checkpoint.specs.Checkpoints.{state_of}
 use Rattle.search.specs.Call.{count_fits}
 use Rattle.search.specs.Walking.{CountFits}
 

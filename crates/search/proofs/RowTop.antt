@@ -1,8 +1,8 @@
 -- The loop over one level's later siblings, on plain values: it starts with the row left out, and takes the bound of each greater member of
 -- the row's word.
 use mathlib.Core.Path.{◌≡◌}
-use mathlib.Core.List.{List, map, map-append}
-use Prim.Native.Nat.{ℕ, ◌+◌, ◌-◌, ◌≤◌, ◌<◌, max}
+use mathlib.Core.List.{List, map-append}
+use Prim.Native.Nat.{ℕ, ◌+◌, ◌≤◌, ◌<◌, max}
 use native.Mathlib.Omega.{arith}
 use lib.ListN.{length, take}
 use borrow.Author.Tests.{lt-ltb}
@@ -15,7 +15,7 @@ use Rattle.mapping.specs.Common.{unmapped, size}
 use Rattle.search_tree.specs.Rules.{Rules, rules_of}
 use Rattle.search_tree.specs.Node.{upper_bound, extend, choices_after}
 use Rattle.search_tree.specs.Ceiling.{top_bound}
-use Rattle.search.specs.Words.{level_word, open_rows, meet_rows, Words}
+use Rattle.search.specs.Words.{level_word, open_rows, meet_rows}
 use Rattle.search.specs.Walking.{Setting, AtRow, level_top}
 use Rattle.search.proofs.NodeWords.{size_take_max}
 use Rattle.search.proofs.WordBounds.{left_out_bound, taken_bound}

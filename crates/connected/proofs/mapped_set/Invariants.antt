@@ -1,6 +1,6 @@
 -- `connected::mapped_set` meets its contract: the set holds those of the numbers passed that pass the test.
 -- Assumes nothing.
-use mathlib.Core.Path.{◌≡◌, ap}
+use mathlib.Core.Path.{◌≡◌}
 use Prim.Native.Nat.{◌-◌, ◌≤◌}
 use Rattle.bitset.specs.Members.{set_of}
 use Rattle.connected.specs.Spreading.{is_mapped}

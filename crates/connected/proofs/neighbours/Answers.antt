@@ -1,8 +1,6 @@
-use Prim.Native.Nat.{◌-◌}
 use native.Mathlib.Omega.{arith}
 use borrow.Author.Rules.{rules}
 use Rattle.bounded.proofs.Settled.{settled_none, settled_more}
-use Rattle.connected.specs.Spreading.{neighbours}
 use Rattle.connected.proofs.neighbours.Goals as goal
 
 pub loop-v-init : goal.loop-v-init

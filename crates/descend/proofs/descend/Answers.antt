@@ -3,7 +3,6 @@ use mathlib.Core.Bool.{true}
 use Prim.Native.Nat.{◌+◌, ◌≤◌, ◌<◌, ◌^◌}
 use native.Mathlib.Omega.{arith}
 use borrow.Author.Rules.{rules}
-use lib.ListN.{length-map}
 use Rattle.descend.proofs.OneSearch.{Exhausted, exhausted_facts}
 use Rattle.descend.proofs.LoopTurn.{fresh_minimum, going_all, turn_steps, turn_refused, turn_accepted, turn_minimum, turn_ends, turn_renews}
 use Rattle.search.proofs.SearchTags.{other_search}

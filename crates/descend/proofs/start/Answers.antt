@@ -4,8 +4,7 @@ use mathlib.Core.List.{List, []}
 use Prim.Native.Nat.{ℕ, ◌+◌, ◌≤◌}
 use native.Mathlib.Omega.{arith}
 use lib.ListN.{length, replicate, length-replicate}
-use borrow.Author.Rules.{rules}
-use Rattle.problem.specs.Problem.{Problem, SoundProblem}
+use Rattle.problem.specs.Problem.{SoundProblem}
 use Rattle.problem.specs.Lent.{lent}
 use Rattle.search_tree.specs.Rules.{rules_of}
 use Rattle.search_tree.specs.Node.{upper_bound}

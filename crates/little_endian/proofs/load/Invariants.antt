@@ -1,6 +1,5 @@
 -- `little_endian::load` meets its contract: x is always the number of those of the first eight bytes that stand at i and above.
 -- Assumes nothing.
-use Prim.Native.Nat.{◌-◌}
 use Rattle.little_endian.proofs.LittleEndian.{LoadedAbove}
 use Rattle.little_endian.proofs.load.Given as goal
 

@@ -1,5 +1,4 @@
 use mathlib.Core.Path.{refl}
-use Prim.Native.Nat.{◌-◌}
 use native.Mathlib.Omega.{arith}
 use Rattle.little_endian.proofs.LittleEndian.{stored_none, stored_more, stored_all}
 use Rattle.little_endian.proofs.store.Goals as goal

@@ -4,7 +4,7 @@ use mathlib.Core.Path.{◌≡◌, sym}
 use Prim.Native.Nat.{◌≤◌}
 use native.Mathlib.Omega.{arith}
 use borrow.Author.Rules.{rules}
-use lib.ListN.{length, length-map}
+use lib.ListN.{length}
 use Rattle.problem.specs.Lent.{lent}
 use Rattle.checkpoint_saver.proofs.SavedLength.{incumbent_few}
 use Rattle.replies.proofs.CallArms.{read_short, read_numbers}

@@ -3,7 +3,7 @@
 use mathlib.Core.Path.{◌≡◌, refl, sym, ◌∙◌}
 use native.Mathlib.Omega.{arith}
 use borrow.Author.Rules.{rules}
-use lib.ListN.{length, length-map}
+use lib.ListN.{length}
 use Rattle.problem.specs.Lent.{lent}
 use Rattle.problem.proofs.VertexSets.{allowing_allowed}
 use Rattle.search_tree.specs.Search.{search_of}

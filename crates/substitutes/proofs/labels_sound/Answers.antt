@@ -1,7 +1,6 @@
 use borrow.Author.Tests.{eq-eqb, ne_eqb}
 use mathlib.Core.Path.{refl, sym, ◌∙◌}
 use mathlib.Core.Bool.{not, and-false}
-use Prim.Native.Nat.{◌-◌}
 use Rattle.bounded.proofs.AllBelow.{passed_none, passed_more, passed_all, false_all_below}
 use lib.Dec.{eqb}
 use Rattle.substitutes.specs.Substitutes.{old_label}

@@ -1,8 +1,8 @@
 -- `checkpoint::shape::in_shape` meets its contract: the tests are made in the order of the clauses, and the first that fails decides.
 -- Assumes nothing.
 use mathlib.Core.Path.{◌≡◌, sym, ◌∙◌}
-use mathlib.Core.Bool.{Bool, true, false, not}
-use borrow.Author.Tests.{le-leb, lt-leb, not-true, not-false}
+use mathlib.Core.Bool.{Bool, true, false}
+use borrow.Author.Tests.{le-leb, lt-leb}
 use Rattle.checkpoint.proofs.shape.in_shape.Goals as goal
 
 -- what a branch on a call's result says of the test that the call computes

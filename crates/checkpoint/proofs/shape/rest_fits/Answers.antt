@@ -1,6 +1,5 @@
 use mathlib.Core.Path.{sym}
 use mathlib.Core.Logic.{inl, inr}
-use Prim.Native.Nat.{◌-◌}
 use Rattle.bounded.proofs.AllBelow.{passed_none, passed_more, passed_all, false_all_below}
 use Rattle.checkpoint.proofs.UnusedBytes.{rest_passes, path_nonzero, incumbent_nonzero}
 use Rattle.checkpoint.proofs.shape.rest_fits.Goals as goal

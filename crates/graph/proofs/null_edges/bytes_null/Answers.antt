@@ -1,4 +1,3 @@
-use Prim.Native.Nat.{◌-◌}
 use native.Mathlib.Omega.{arith}
 use Rattle.bounded.proofs.Tells.{tells_passed, tells_failed}
 use Rattle.graph.proofs.Runs.{run_none, run_one, run_at, run_join, run_part}

@@ -1,5 +1,4 @@
 use borrow.Author.Rules.{rules}
-use Prim.Native.Nat.{◌-◌}
 use native.Mathlib.Omega.{arith}
 use Rattle.bounded.proofs.Tells.{tells_passed}
 use Rattle.graph.proofs.Runs.{run_none, run_join, run_part, run_fails}

@@ -2,7 +2,6 @@ use borrow.Author.Count.{below_none, below_more}
 use mathlib.Core.Path.{◌≡◌}
 use mathlib.Core.Bool.{true}
 use mathlib.Core.Logic.{◌↔◌}
-use Prim.Native.Nat.{◌-◌}
 use native.Mathlib.Omega.{arith}
 use Rattle.graph.specs.Soundness.{edges_sound}
 use Rattle.graph.specs.EdgeRows.{TableRows}

@@ -1,7 +1,6 @@
 use mathlib.Core.Path.{sym, ◌∙◌}
-use Prim.Native.Nat.{◌-◌}
 use Rattle.bounded.proofs.AllBelow.{passed_none, passed_more, passed_all, false_all_below}
-use Rattle.graph.specs.Soundness.{label_sound, labels_sound}
+use Rattle.graph.specs.Soundness.{labels_sound}
 use Rattle.graph.proofs.table_tests.labels_sound.Goals as goal
 
 pub loop-v-init : goal.loop-v-init

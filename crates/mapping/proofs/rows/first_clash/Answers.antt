@@ -1,7 +1,6 @@
 use mathlib.Core.Path.{ap, sym, ◌∙◌}
-use Prim.Native.Nat.{◌-◌}
 use Rattle.bounded.proofs.First.{clear_none, clear_more, clear_all, clear_found}
-use Rattle.mapping.specs.Check.{clash, finding}
+use Rattle.mapping.specs.Check.{finding}
 use Rattle.mapping.proofs.rows.first_clash.Goals as goal
 
 pub loop-u-init : goal.loop-u-init

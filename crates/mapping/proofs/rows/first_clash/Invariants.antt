@@ -1,6 +1,5 @@
 -- `mapping::rows::first_clash` meets its contract: the earlier rows looked at so far are clear.
 -- Assumes nothing.
-use mathlib.Core.Path.{ap}
 use mathlib.Core.List.{[]}
 use Prim.Native.Nat.{◌-◌}
 use Rattle.bounded.proofs.First.{ClearTo}

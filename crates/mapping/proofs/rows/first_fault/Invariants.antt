@@ -1,6 +1,5 @@
 -- `mapping::rows::first_fault` meets its contract: the rows looked at so far are clear, so that their entries are below 64.
 -- Assumes nothing.
-use mathlib.Core.Path.{ap}
 use Prim.Native.Nat.{◌-◌}
 use lib.ListN.{length}
 use Rattle.bounded.proofs.First.{ClearTo}

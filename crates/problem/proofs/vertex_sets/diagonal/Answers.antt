@@ -1,7 +1,6 @@
 use mathlib.Core.Path.{refl, sym, ◌∙◌}
-use Prim.Native.Nat.{◌-◌}
 use native.Mathlib.Omega.{arith}
-use lib.ListN.{get_or, replicate, get_or-replicate, get_or-eq_default}
+use lib.ListN.{get_or-replicate, get_or-eq_default}
 use borrow.Author.Rules.{rules}
 use Rattle.bounded.proofs.Settled.{settled_none, settled_more, settled_skip}
 use Rattle.graph.specs.Graph.{place}

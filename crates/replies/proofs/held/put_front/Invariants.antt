@@ -1,7 +1,7 @@
 -- `replies::held::put_front` meets its contract: the entries passed are stored at the front, one for each turn. Assumes nothing.
 use mathlib.Core.Path.{◌≡◌}
 use Prim.Native.Nat.{◌-◌, ◌≤◌}
-use lib.ListN.{length, take, set}
+use lib.ListN.{length, take}
 use lib.Seq.{sets}
 use Rattle.replies.proofs.held.put_front.Given as goal
 

@@ -1,7 +1,6 @@
 -- `search::ceiling::later_top` meets its contract: level by level the later siblings are counted or passed over (`LaterTop`). A level's
 -- bounds are made in the level after it, which is not needed any more.
 -- Assumes nothing.
-use Prim.Native.Nat.{◌-◌}
 use Rattle.search.proofs.LaterTop.{LevelsHead}
 use Rattle.search.proofs.ceiling.later_top.Given as goal
 

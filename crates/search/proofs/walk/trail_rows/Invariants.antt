@@ -1,7 +1,7 @@
 -- `search::walk::trail_rows` meets its contract: the rows of the last pairs are gathered, one a turn (`TrailRows`). Assumes nothing.
 use mathlib.Core.Path.{◌≡◌}
 use mathlib.Core.List.{List}
-use Prim.Native.Nat.{ℕ, ◌-◌, ◌≤◌}
+use Prim.Native.Nat.{ℕ, ◌≤◌}
 use lib.ListN.{length, take}
 use Rattle.mapping.specs.Common.{size}
 use Rattle.search.specs.Walking.{Trail}

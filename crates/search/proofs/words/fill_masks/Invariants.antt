@@ -1,6 +1,5 @@
 -- `search::words::fill_masks` meets its contract: the masks of the vertices passed are filled in, and the others are empty (`MaskRows`).
 -- Assumes nothing.
-use mathlib.Core.Path.{ap}
 use mathlib.Core.List.{[]}
 use Prim.Native.Nat.{◌-◌}
 use Rattle.graph.specs.Graph.{graph}

@@ -1,10 +1,7 @@
 use mathlib.Core.Path.{refl, sym, ◌∙◌}
-use mathlib.Core.Logic.{⊎_elim}
-use Prim.Native.Nat.{◌-◌}
 use native.Mathlib.Omega.{arith}
-use lib.ListN.{length, length-set}
+use lib.ListN.{length-set}
 use borrow.Author.Rules.{rules}
-use borrow.Author.Tests.{not-true, not-false}
 use Rattle.search.proofs.RootTurn.{root_none, root_more, root_skip, root_all}
 use Rattle.search.proofs.words.root_words.Goals as goal
 use Rattle.search.proofs.words.root_words.Goals.{then-not-is_empty, else-not-is_empty}

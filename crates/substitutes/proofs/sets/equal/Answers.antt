@@ -1,11 +1,8 @@
 use mathlib.Core.Path.{refl, ◌∙◌}
-use Prim.Native.Nat.{◌-◌}
 use native.Mathlib.Omega.{arith}
-use lib.Dec.{ltb}
-use lib.ListN.{get_or, replicate, get_or-replicate}
+use lib.ListN.{get_or-replicate}
 use borrow.Author.Tests.{lt-ltb, le-ltb}
 use Rattle.bounded.proofs.Settled.{settled_none, settled_more, settled_skip}
-use Rattle.substitutes.specs.Agreeing.{having}
 use borrow.Author.Rules.{rules}
 use Rattle.substitutes.proofs.sets.equal.Goals as goal
 use Rattle.substitutes.proofs.sets.equal.Goals.{else-v-old, then-v-old}

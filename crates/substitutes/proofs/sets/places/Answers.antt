@@ -1,4 +1,3 @@
-use Prim.Native.Nat.{◌-◌}
 use native.Mathlib.Omega.{arith}
 use Rattle.substitutes.proofs.Filled.{filled_none}
 use Rattle.substitutes.proofs.Placed.{placed_more, placed_all}

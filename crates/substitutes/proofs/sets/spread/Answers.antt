@@ -1,12 +1,10 @@
 use mathlib.Core.Path.{refl, ap, ◌∙◌}
-use Prim.Native.Nat.{ℕ, ◌-◌}
+use Prim.Native.Nat.{ℕ}
 use native.Mathlib.Omega.{arith}
-use lib.Dec.{ltb}
 use lib.ListN.{get_or}
 use borrow.Author.Tests.{lt-ltb, le-ltb}
 use Rattle.bounded.proofs.Settled.{settled_none, settled_more, settled_skip}
 use Rattle.bitset.specs.Members.{union_of}
-use Rattle.substitutes.specs.Agreeing.{first_having}
 use borrow.Author.Rules.{rules}
 use Rattle.substitutes.proofs.sets.spread.Goals as goal
 use Rattle.substitutes.proofs.sets.spread.Goals.{else-v-old, then-v-old}
