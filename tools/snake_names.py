@@ -34,7 +34,8 @@ def files(*ends):
 
 def declared(path, text):
     """The names that a file declares: signatures, fields and constructors, not the answers to goals."""
-    out = set()
+    # names that an import gives, too
+    out = {n for line in re.findall(r"(?m)^ *(?:pub |ghost )*use [^;\n]*", text) for n in re.findall(rf" as ({WORD})", line) if re.match(r"[a-z]", n)}
     if path.suffix != ".antt":
         return out
     for m in re.finditer(rf"(?m)^ *(?:(?:abbrev|unfoldable|pub|ruleset|infix[lr]?) +)*({WORD})((?: +{WORD})*) +: *(.*)$", text):

@@ -5,7 +5,7 @@ ghost use Rattle.std.specs.Prelude.{◌≡◌, not, ◌||◌, ◌++◌, ◌-◌,
 ghost use Rattle.bounded.specs.Below.{all_below};
 ghost use Rattle.mapping.specs.Answers.{mapping_outcome};
 ghost use Rattle.search_tree.specs.Search.{admits_by};
-ghost use Rattle.checkpoint.specs.Checkpoints.{reaches as reachesTo, steps_fit, rest_fits, shape_tests};
+ghost use Rattle.checkpoint.specs.Checkpoints.{reaches as reaches_to, steps_fit, rest_fits, shape_tests};
 
 use super::Checkpoint;
 use graph::MAX_ORDER;
@@ -38,7 +38,7 @@ pub fn filled(path: [u8; MAX_ORDER], depth: usize) -> [u8; MAX_ORDER]
 
 // Whether a mapping, if it is asked about, is a common subgraph of at least `minimum` pairs.
 pub fn reaches(asked: bool, minimum: u8, answer: MappingAnswer) -> bool
-    ensures { result ≡ (not asked || reachesTo minimum (mapping_outcome answer)) }
+    ensures { result ≡ (not asked || reaches_to minimum (mapping_outcome answer)) }
 {
     if !asked {
         return true;
@@ -126,8 +126,8 @@ pub fn in_shape(
     held: MappingAnswer,
 ) -> bool
     requires { (length checkpoint.path ≡ 64) × (length checkpoint.incumbent ≡ 64) }
-    ensures { result ≡ shape_tests order (reachesTo 0 (mapping_outcome path))
-        (not checkpoint.holds || reachesTo checkpoint.minimum (mapping_outcome held)) checkpoint }
+    ensures { result ≡ shape_tests order (reaches_to 0 (mapping_outcome path))
+        (not checkpoint.holds || reaches_to checkpoint.minimum (mapping_outcome held)) checkpoint }
 {
     if order < checkpoint.depth {
         return false;

@@ -1,7 +1,7 @@
 // The form of checkpoint bytes, walked byte by byte to the first one that cannot stand where it does.
 
 ghost use Rattle.std.specs.Prelude.{◌≡◌, ◌+◌, ◌^◌, ◌<◌};
-ghost use Rattle.checkpoint_loader.specs.Form.{stage_if, header_stage, path_stage, next as nextStage, is_done, form_fault, count, step_of, fault_of};
+ghost use Rattle.checkpoint_loader.specs.Form.{stage_if, header_stage, path_stage, next as next_stage, is_done, form_fault, count, step_of, fault_of};
 
 use checkpoint_saver::{END, INCUMBENT_MARK, MINIMUM_MARK, PATH_MARK, STATE_MARK, STEPS_MARK};
 
@@ -77,7 +77,7 @@ pub fn after_path(order: usize, holds: bool, k: usize, byte: u8) -> Step
 
 pub fn next(order: usize, stage: Stage, byte: u8) -> Step
     requires { count stage + 1 < 2 ^ 64 }
-    ensures { step_of result ≡ nextStage order stage byte }
+    ensures { step_of result ≡ next_stage order stage byte }
 {
     match stage {
         Stage::Header(i) => after_header(i, byte),

@@ -3,7 +3,7 @@
 #![tactic(auto)]
 
 ghost use Rattle.std.specs.Prelude.{◌≡◌, ◌<◌, get_or};
-ghost use Rattle.connected.specs.Spreading.{adjacent as adjacentIn, neighbours as neighboursIn, Neighbours, is_mapped, mapped_set};
+ghost use Rattle.connected.specs.Spreading.{adjacent as adjacent_in, neighbours as neighbours_in, Neighbours, is_mapped, mapped_set};
 ghost use Rattle.connected.specs.Spreading.{connected_set, is_connected};
 
 use bitset::Least;
@@ -13,7 +13,7 @@ use mapping::{OldVertex, UNMAPPED};
 // Whether two different vertices have an edge; null past the end of the table.
 fn adjacent(edges: &[u8], from: OldVertex, to: OldVertex) -> bool
     requires { (from.0 < 64) × (to.0 < 64) }
-    ensures { result ≡ adjacentIn edges.now from.0 to.0 }
+    ensures { result ≡ adjacent_in edges.now from.0 to.0 }
 {
     let u = from.0;
     let v = to.0;
@@ -29,7 +29,7 @@ fn adjacent(edges: &[u8], from: OldVertex, to: OldVertex) -> bool
 
 fn neighbours_of(edges: &[u8], vertex: OldVertex) -> u64
     requires { vertex.0 < 64 }
-    ensures { result ≡ neighboursIn edges.now vertex.0 }
+    ensures { result ≡ neighbours_in edges.now vertex.0 }
 {
     let mut set = 0;
     let mut u = 0;

@@ -21,7 +21,7 @@ use Rattle.search.specs.declared.SearchAnswer.{SearchAnswer}
 use Rattle.search.specs.Answers.{search_answer, called_of}
 use Rattle.search.specs.Call as SearchCall
 use Rattle.search.specs.Call.{Called, cleared, refuse, search_call}
-use Rattle.search.specs.contracts.SearchAnswer as search-tags
+use Rattle.search.specs.contracts.SearchAnswer as search_tags
 use Rattle.search.proofs.CallRefusals.{Taken, CallWays, refuses, accepts, call_ways}
 use Rattle.descend.specs.Descent.{is_exhausted, lowered, descent_ceiling}
 use Rattle.descend.specs.Call.{Descended, descend_call}
@@ -49,7 +49,7 @@ unfolding checkpoint_of
 fresh_minimum minimum e = ap (λ (c : Checkpoint). c.minimum) e
 
 -- the arm `_`: 1 to 4 are the tags of the answers that are no ceiling
-pub no_ceiling : (a : SearchAnswer) (top : ℕ) → OneOf (1 ∷ 2 ∷ 3 ∷ 4 ∷ []) (tag_of search-tags.the_type a) → search_answer a ≡ accepted top → ⊥
+pub no_ceiling : (a : SearchAnswer) (top : ℕ) → OneOf (1 ∷ 2 ∷ 3 ∷ 4 ∷ []) (tag_of search_tags.the_type a) → search_answer a ≡ accepted top → ⊥
 no_ceiling (SearchAnswer.Ceiling n) top k e = miss (1 ∷ 2 ∷ 3 ∷ 4 ∷ []) 0 tt k
 no_ceiling (SearchAnswer.Flawed f) top k e = true≢false (cc)
 no_ceiling SearchAnswer.OutOfShape top k e = true≢false (cc)
@@ -116,7 +116,7 @@ module _ {connected : Bool} {P : Problem} {floor : ℕ} {c : Checkpoint} {budget
     ended answer = ending answer (called_of r words')
 
     -- A refusal is the whole call's.
-    pub turn_refused : OneOf (1 ∷ 2 ∷ 3 ∷ 4 ∷ []) (tag_of search-tags.the_type r.answer) → ended (search_answer r.answer) ≡ descend_call connected P floor c budget workspace
+    pub turn_refused : OneOf (1 ∷ 2 ∷ 3 ∷ 4 ∷ []) (tag_of search_tags.the_type r.answer) → ended (search_answer r.answer) ≡ descend_call connected P floor c budget workspace
     turn_refused arm = go (call_ways connected P at left words)
       where
         go : CallWays connected P at left words → ended (search_answer r.answer) ≡ descend_call connected P floor c budget workspace

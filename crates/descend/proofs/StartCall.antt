@@ -23,7 +23,7 @@ use Rattle.search.specs.declared.Searched.{Searched}
 use Rattle.search.specs.declared.SearchAnswer.{SearchAnswer}
 use Rattle.search.specs.Answers.{search_answer, called_of}
 use Rattle.search.specs.Call.{Called, words_needed, search_call}
-use Rattle.search.specs.contracts.SearchAnswer as search-tags
+use Rattle.search.specs.contracts.SearchAnswer as search_tags
 use Rattle.search.proofs.WalkCall.{fresh_call}
 use Rattle.descend.specs.Descent.{fresh_at, start_of, lowered, descent_ceiling}
 use Rattle.descend.specs.Call.{refuse_start, start_call}
@@ -67,7 +67,7 @@ module _ (P : Problem) (floor : ℕ) (words : List ℕ) (room : words_needed ≤
       called = rw fresh-is at made
 
       -- A refusal is the start's.
-      pub start_refused : OneOf (1 ∷ 2 ∷ 3 ∷ 4 ∷ []) (tag_of search-tags.the_type r.answer) → (c : Checkpoint) → c ≡ fresh_checkpoint floor
+      pub start_refused : OneOf (1 ∷ 2 ∷ 3 ∷ 4 ∷ []) (tag_of search_tags.the_type r.answer) → (c : Checkpoint) → c ≡ fresh_checkpoint floor
           → started_of (record { answer = r.answer; checkpoint = c }) ≡ start_call P floor
       start_refused arm c same = go ways
         where

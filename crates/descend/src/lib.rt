@@ -6,7 +6,7 @@
 ghost use Rattle.std.specs.Prelude.{◌≡◌, ◌≤◌, min, max};
 ghost use Rattle.problem.specs.Lent.{lent};
 ghost use Rattle.checkpoint.specs.Checkpoints.{state_of};
-ghost use Rattle.descend.specs.Descent.{is_exhausted, lowered as loweredTo};
+ghost use Rattle.descend.specs.Descent.{is_exhausted, lowered as lowered_to};
 ghost use Rattle.descend.specs.Call.{start_call, descend_call};
 ghost use Rattle.descend.specs.Answers.{started_of, descended_of};
 
@@ -52,7 +52,7 @@ fn is_exhausted(floor: u8, checkpoint: Checkpoint) -> bool
 // The ceiling of a descent at a checkpoint, from its search's.
 fn lowered(order: usize, checkpoint: Checkpoint, top: usize) -> usize
     requires { order ≤ 64 }
-    ensures { result ≡ loweredTo checkpoint.minimum (state_of order checkpoint).incumbent top }
+    ensures { result ≡ lowered_to checkpoint.minimum (state_of order checkpoint).incumbent top }
 {
     let minimum = checkpoint.minimum as usize;
     let holds = checkpoint.holds;

@@ -14,16 +14,16 @@ use Rattle.checkpoint.specs.declared.Checkpoint.{Checkpoint}
 use Rattle.search.specs.declared.SearchAnswer.{SearchAnswer}
 use Rattle.search.specs.Call.{words_needed, cleared}
 use Rattle.search.specs.Answers.{search_answer}
-use Rattle.search.specs.contracts.SearchAnswer as search-tags
+use Rattle.search.specs.contracts.SearchAnswer as search_tags
 use Rattle.checkpoint_saver.specs.declared.SaveAnswer.{SaveAnswer}
 use Rattle.checkpoint_saver.specs.Answers.{save_answer}
 use Rattle.checkpoint_saver.specs.Saving.{saving_of, saving}
-use Rattle.checkpoint_saver.specs.contracts.SaveAnswer as save-tags
+use Rattle.checkpoint_saver.specs.contracts.SaveAnswer as save_tags
 use Rattle.checkpoint_loader.specs.declared.Loaded.{Loaded}
 use Rattle.checkpoint_loader.specs.declared.LoadAnswer.{LoadAnswer}
 use Rattle.checkpoint_loader.specs.Answers.{load_answer}
 use Rattle.checkpoint_loader.specs.Loading.{Loading, loading_of, loading}
-use Rattle.checkpoint_loader.specs.contracts.LoadAnswer as load-tags
+use Rattle.checkpoint_loader.specs.contracts.LoadAnswer as load_tags
 use Rattle.descend.specs.declared.Descended.{Descended as DescendedCode}
 use Rattle.descend.specs.Call.{Descended, descend_call}
 use Rattle.descend.specs.Answers.{descended_of}
@@ -76,7 +76,7 @@ module _ (connected : Bool) (P : Problem) (floor : ℕ) (c : Checkpoint) (budget
             ∙ saved_call
 
         -- Not saved, the refusal is handed on, and both lent buffers are as they were.
-        pub descent_unsaved : OneOf (1 ∷ 2 ∷ 3 ∷ []) (tag_of save-tags.the_type s) → (t : Reply) → t ≡ reply_of (save_answer s)
+        pub descent_unsaved : OneOf (1 ∷ 2 ∷ 3 ∷ []) (tag_of save_tags.the_type s) → (t : Reply) → t ≡ reply_of (save_answer s)
             → descent_reply t 0 0 workspace after ≡ descend_and_save connected P floor c budget workspace next
         descent_unsaved off t replied =
             ap (λ (b : List ℕ). descent_reply t 0 0 workspace b) (unsaved connected P r.checkpoint next s after saves off)
@@ -85,7 +85,7 @@ module _ (connected : Bool) (P : Problem) (floor : ℕ) (c : Checkpoint) (budget
             ∙ saved_call
 
     -- A call that is refused is handed on.
-    pub descent_refused : OneOf (1 ∷ 2 ∷ 3 ∷ 4 ∷ []) (tag_of search-tags.the_type r.answer) → (t : Reply) → t ≡ reply_of (search_answer r.answer)
+    pub descent_refused : OneOf (1 ∷ 2 ∷ 3 ∷ 4 ∷ []) (tag_of search_tags.the_type r.answer) → (t : Reply) → t ≡ reply_of (search_answer r.answer)
         → descent_reply t 0 0 workspace next ≡ descend_and_save connected P floor c budget workspace next
     unfolding descend_and_save
     descent_refused off t replied =
@@ -106,7 +106,7 @@ module _ (connected : Bool) (P : Problem) (floor : ℕ) (bytes : List ℕ) (budg
         ∙ ap (λ (l : Loading). descend_loaded connected P floor l budget workspace next) loads
 
     -- A refused load is handed on, and no call is made.
-    pub load_not_descended : (t : Reply) → OneOf (1 ∷ 2 ∷ 3 ∷ []) (tag_of load-tags.the_type r.answer) → t ≡ reply_of (load_answer r.answer)
+    pub load_not_descended : (t : Reply) → OneOf (1 ∷ 2 ∷ 3 ∷ []) (tag_of load_tags.the_type r.answer) → t ≡ reply_of (load_answer r.answer)
         → descent_reply t 0 0 workspace next ≡ descend_bytes connected P floor bytes budget workspace next
     unfolding descend_bytes
     load_not_descended t off replied =

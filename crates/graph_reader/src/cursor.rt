@@ -1,6 +1,5 @@
 // The command reader: the lent graph bytes along with the place of the next command and their edition.
-// The borrow checker covers no function over a struct that holds a reference, so these are few and thin: `command_at` and `place_after`, which are covered, do
-// the work, and `next_command` and `next_place`, whose parameters are plain, serve every caller.
+// `command_at` and `place_after` do the work, and `next_command` and `next_place`, whose parameters are plain, serve every caller.
 
 ghost use Rattle.std.specs.Prelude.{◌≡◌, ◌+◌, ◌≤◌, ◌<◌, ◌^◌, length};
 ghost use Rattle.graph_reader.specs.Commands.{width as width_of};

@@ -7,7 +7,7 @@ ghost use Rattle.problem.specs.Problem.{compare_edges};
 ghost use Rattle.problem.specs.Lent.{lent, BothLong};
 ghost use Rattle.mapping.specs.Common.{size as size_of};
 ghost use Rattle.mapping.specs.Answers.{mapping_outcome};
-ghost use Rattle.mapping.specs.Check.{finding, EntriesBelow, clash as clashAt, list_by};
+ghost use Rattle.mapping.specs.Check.{finding, EntriesBelow, clash as clash_at, list_by};
 ghost use Rattle.mapping.specs.LentRows.{lent_row};
 
 use super::{MappingAnswer, NewVertex, OldVertex, UNMAPPED};
@@ -55,7 +55,7 @@ pub fn compare_edges<'a>(
 pub fn clash<'a>(edges: Edges<'a>, mapping: &[u8], v: OldVertex, u: OldVertex) -> Finding
     requires both_long { BothLong 4096 edges × (length mapping.now ≤ 64) × (v.0 < length mapping.now) × (u.0 < v.0) }
     requires v_bound { (get_or mapping.now v.0 0 < 64) × EntriesBelow mapping.now v.0 }
-    ensures { finding result ≡ clashAt (lent [] [] edges.entry []) mapping.now v.0 u.0 }
+    ensures { finding result ≡ clash_at (lent [] [] edges.entry []) mapping.now v.0 u.0 }
 {
     let row = v.0;
     let earlier = u.0;
@@ -79,7 +79,7 @@ pub fn clash<'a>(edges: Edges<'a>, mapping: &[u8], v: OldVertex, u: OldVertex) -
 pub fn first_clash<'a>(edges: Edges<'a>, mapping: &[u8], v: OldVertex) -> Finding
     requires both_long { BothLong 4096 edges × (length mapping.now ≤ 64) × (v.0 < length mapping.now) }
     requires v_bound { (get_or mapping.now v.0 0 < 64) × EntriesBelow mapping.now v.0 }
-    ensures { finding result ≡ first_below v.0 (clashAt (lent [] [] edges.entry []) mapping.now v.0) }
+    ensures { finding result ≡ first_below v.0 (clash_at (lent [] [] edges.entry []) mapping.now v.0) }
 {
     let row = v.0;
     let mut u = 0;

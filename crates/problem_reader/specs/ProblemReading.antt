@@ -36,9 +36,9 @@ pub record ProblemReading : Type 0 where
 
 -- 10 comes first, for the tables of either graph, and leaves all four untouched
 unfoldable pub reading_problem : List ℕ → List ℕ → List ℕ → List ℕ → List ℕ → List ℕ → ProblemReading
-reading_problem old_labels old_edges new_labels new_edges oldBytes newBytes =
-    let old = reading old_labels old_edges oldBytes in
-    let new = reading new_labels new_edges newBytes in
+reading_problem old_labels old_edges new_labels new_edges old_bytes new_bytes =
+    let old = reading old_labels old_edges old_bytes in
+    let new = reading new_labels new_edges new_bytes in
     cond (tables_fit 0 old_labels old_edges && tables_fit 0 new_labels new_edges)
     (record {
       outcome = both_read old new;
@@ -57,5 +57,5 @@ reading_problem old_labels old_edges new_labels new_edges oldBytes newBytes =
 
 -- into tables that are all 0
 unfoldable pub read_problem : List ℕ → List ℕ → ReadOutcome
-read_problem oldBytes newBytes =
-    (reading_problem (replicate 64 0) (replicate 4096 0) (replicate 64 0) (replicate 4096 0) oldBytes newBytes).outcome
+read_problem old_bytes new_bytes =
+    (reading_problem (replicate 64 0) (replicate 4096 0) (replicate 64 0) (replicate 4096 0) old_bytes new_bytes).outcome

@@ -15,7 +15,7 @@ use Rattle.answers.specs.Answer.{accepted}
 use Rattle.graph.specs.Graph.{Graph, graph}
 use Rattle.graph_reader.specs.Reading.{reading, reading_edition, read_file, opens, read_at, read_from, judge, read_graph}
 use Rattle.problem_reader.specs.ProblemReading.{reading_problem, read_problem}
-use Rattle.problem_reader.proofs.MarkedGraphs.{bytes, bytes_small, old as oldBytes, new as newBytes}
+use Rattle.problem_reader.proofs.MarkedGraphs.{bytes, bytes_small, old as old_bytes, new as new_bytes}
 use Rattle.problem_reader.proofs.ReadProblem.{problem_sound}
 use Rattle.substitutes.specs.Substitutes.{listed, agree}
 use Rattle.problem.specs.Problem.{Problem, SoundProblem, problem, allowed, consistent}
@@ -92,33 +92,33 @@ Prints old new input text = refit_text old new input ≡ ascii text
 -- The texts of 01's section, row by row.
 pub program_example :
     -- 01's example, its files in edition 2 (02, U6)
-    Prints oldBytes newBytes (given 1 100) "state done\nsize 2\nsteps 6\nfence 3\nkeep 0 1\nkeep 1 0\nremove 2\n"
+    Prints old_bytes new_bytes (given 1 100) "state done\nsize 2\nsteps 6\nfence 3\nkeep 0 1\nkeep 1 0\nremove 2\n"
     -- the graphs exchanged: a new vertex to fit
-    × Prints newBytes oldBytes (given 1 100) "state done\nsize 2\nsteps 6\nfence 3\nkeep 0 1\nkeep 1 0\nfit 2\n"
+    × Prints new_bytes old_bytes (given 1 100) "state done\nsize 2\nsteps 6\nfence 3\nkeep 0 1\nkeep 1 0\nfit 2\n"
     -- budget 3: stopped, nothing held
-    × Prints oldBytes newBytes (given 1 3) "state stopped\nsize none\nsteps 3\nfence 3\n"
+    × Prints old_bytes new_bytes (given 1 3) "state stopped\nsize none\nsteps 3\nfence 3\n"
     -- minimum 3: done, nothing held
-    × Prints oldBytes newBytes (given 3 100) "state done\nsize none\nsteps 3\nfence 3\n"
+    × Prints old_bytes new_bytes (given 3 100) "state done\nsize none\nsteps 3\nfence 3\n"
     -- eight bytes of input, and ten
-    × Prints oldBytes newBytes (1 ∷ 100 ∷ 0 ∷ 0 ∷ 0 ∷ 0 ∷ 0 ∷ 0 ∷ []) "refused input\n"
-    × Prints oldBytes newBytes (1 ∷ 100 ∷ 0 ∷ 0 ∷ 0 ∷ 0 ∷ 0 ∷ 0 ∷ 0 ∷ 0 ∷ []) "refused input\n"
+    × Prints old_bytes new_bytes (1 ∷ 100 ∷ 0 ∷ 0 ∷ 0 ∷ 0 ∷ 0 ∷ 0 ∷ []) "refused input\n"
+    × Prints old_bytes new_bytes (1 ∷ 100 ∷ 0 ∷ 0 ∷ 0 ∷ 0 ∷ 0 ∷ 0 ∷ 0 ∷ 0 ∷ []) "refused input\n"
     -- the input is tested before the graphs
     × Prints [] [] [] "refused input\n"
     -- no old bytes; an old graph that is refused with 5; a new one
-    × Prints [] newBytes (given 1 100) "refused 1\n"
-    × Prints missing newBytes (given 1 100) "refused 5\n"
-    × Prints oldBytes missing (given 1 100) "refused 5\n"
+    × Prints [] new_bytes (given 1 100) "refused 1\n"
+    × Prints missing new_bytes (given 1 100) "refused 5\n"
+    × Prints old_bytes missing (given 1 100) "refused 5\n"
     -- the old graph is read first
     × Prints [] missing (given 1 100) "refused 1\n"
     -- a file of edition 1 is not moved silently
-    × Prints earlier newBytes (given 1 100) "refused 27\n"
-    × Prints oldBytes earlier (given 1 100) "refused 27\n"
+    × Prints earlier new_bytes (given 1 100) "refused 27\n"
+    × Prints old_bytes earlier (given 1 100) "refused 27\n"
 unfolding reading reading_edition read_file opens read_at read_from judge bytes from_little all_below some_below sum_below run_below listed agree allowed consistent mapped_from candidate candidates upper_bound choices children choices_after later_siblings open_nodes visit_path visit after top_bound ceiling checkpoint_of digits keep_lines remove_lines is_free fit_lines vertex_lines accepted_text read_problem reading_problem refit_text ascii
 program_example = (
-  printed oldBytes newBytes (given 1 100) 3 2 refl refl refl refl refl (lit< tt),
-  printed newBytes oldBytes (given 1 100) 2 3 refl refl refl refl refl (lit< tt),
-  printed oldBytes newBytes (given 1 3) 3 2 refl refl refl refl refl (lit< tt),
-  printed oldBytes newBytes (given 3 100) 3 2 refl refl refl refl refl (lit< tt),
+  printed old_bytes new_bytes (given 1 100) 3 2 refl refl refl refl refl (lit< tt),
+  printed new_bytes old_bytes (given 1 100) 2 3 refl refl refl refl refl (lit< tt),
+  printed old_bytes new_bytes (given 1 3) 3 2 refl refl refl refl refl (lit< tt),
+  printed old_bytes new_bytes (given 3 100) 3 2 refl refl refl refl refl (lit< tt),
   refl,
   refl,
   refl,

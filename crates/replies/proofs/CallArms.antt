@@ -19,7 +19,7 @@ use Rattle.search.specs.declared.Searched.{Searched}
 use Rattle.search.specs.declared.SearchAnswer.{SearchAnswer}
 use Rattle.search.specs.Call.{Called, words_needed, cleared, search_call}
 use Rattle.search.specs.Answers.{search_answer, called_of}
-use Rattle.search.specs.contracts.SearchAnswer as search-tags
+use Rattle.search.specs.contracts.SearchAnswer as search_tags
 use Rattle.checkpoint_saver.specs.declared.SaveAnswer.{SaveAnswer}
 use Rattle.checkpoint_loader.specs.declared.Loaded.{Loaded}
 use Rattle.checkpoint_loader.specs.declared.LoadAnswer.{LoadAnswer}
@@ -27,8 +27,8 @@ use Rattle.checkpoint_saver.specs.Answers.{save_answer}
 use Rattle.checkpoint_loader.specs.Answers.{load_answer}
 use Rattle.checkpoint_saver.specs.Saving.{state_byte, saving_of, saving}
 use Rattle.checkpoint_loader.specs.Loading.{Loading, loading_of, loading}
-use Rattle.checkpoint_loader.specs.contracts.LoadAnswer as load-tags
-use Rattle.checkpoint_saver.specs.contracts.SaveAnswer as save-tags
+use Rattle.checkpoint_loader.specs.contracts.LoadAnswer as load_tags
+use Rattle.checkpoint_saver.specs.contracts.SaveAnswer as save_tags
 use Rattle.checkpoint_saver.proofs.SavedLength.{incumbent_few}
 use Rattle.checkpoint_loader.proofs.LoadAccepts.{load_in_shape}
 use Rattle.replies.specs.declared.Reply.{Reply}
@@ -42,14 +42,14 @@ use Rattle.replies.proofs.CallKept.{Ways, Positive, save_kept, search_kept, enou
 -- The arms `_` of the code's matches: what does not accept is handed on.
 module _ {A : Type 0} (done : ℕ → A) (refusal : Answer → A) where
   -- 1 to 3 are the tags of a save's refusals
-  pub off_save : (a : SaveAnswer) → OneOf (1 ∷ 2 ∷ 3 ∷ []) (tag_of save-tags.the_type a) → refusal (save_answer a) ≡ when_accepted (save_answer a) done refusal
+  pub off_save : (a : SaveAnswer) → OneOf (1 ∷ 2 ∷ 3 ∷ []) (tag_of save_tags.the_type a) → refusal (save_answer a) ≡ when_accepted (save_answer a) done refusal
   off_save (SaveAnswer.Written n) k = absurd (miss (1 ∷ 2 ∷ 3 ∷ []) 0 tt k)
   off_save (SaveAnswer.Flawed f) k = refl
   off_save SaveAnswer.OutOfShape k = refl
   off_save SaveAnswer.TooShort k = refl
 
   -- 1 to 4 are those of the answers that are no ceiling
-  pub off_search : (a : SearchAnswer) → OneOf (1 ∷ 2 ∷ 3 ∷ 4 ∷ []) (tag_of search-tags.the_type a) → refusal (search_answer a) ≡ when_accepted (search_answer a) done refusal
+  pub off_search : (a : SearchAnswer) → OneOf (1 ∷ 2 ∷ 3 ∷ 4 ∷ []) (tag_of search_tags.the_type a) → refusal (search_answer a) ≡ when_accepted (search_answer a) done refusal
   off_search (SearchAnswer.Ceiling n) k = absurd (miss (1 ∷ 2 ∷ 3 ∷ 4 ∷ []) 0 tt k)
   off_search (SearchAnswer.Flawed f) k = refl
   off_search SearchAnswer.OutOfShape k = refl
@@ -57,7 +57,7 @@ module _ {A : Type 0} (done : ℕ → A) (refusal : Answer → A) where
   off_search SearchAnswer.ManySteps k = refl
 
 -- 1 to 3 are those of a load's refusals
-pub off_load : {A : Type 0} (done : A) (refusal : Answer → A) (a : LoadAnswer) → OneOf (1 ∷ 2 ∷ 3 ∷ []) (tag_of load-tags.the_type a)
+pub off_load : {A : Type 0} (done : A) (refusal : Answer → A) (a : LoadAnswer) → OneOf (1 ∷ 2 ∷ 3 ∷ []) (tag_of load_tags.the_type a)
     → refusal (load_answer a) ≡ when_passed (load_answer a) done refusal
 off_load done refusal LoadAnswer.InShape k = absurd (miss (1 ∷ 2 ∷ 3 ∷ []) 0 tt k)
 off_load done refusal (LoadAnswer.Flawed f) k = refl
@@ -66,11 +66,11 @@ off_load done refusal LoadAnswer.OutOfShape k = refl
 
 -- A refused save leaves the buffer as it was.
 pub unsaved : (connected : Bool) (P : Problem) (c : Checkpoint) (next : List ℕ) (s : SaveAnswer) (after : List ℕ) → saving_of s after ≡ saving connected P c next
-    → OneOf (1 ∷ 2 ∷ 3 ∷ []) (tag_of save-tags.the_type s) → after ≡ next
+    → OneOf (1 ∷ 2 ∷ 3 ∷ []) (tag_of save_tags.the_type s) → after ≡ next
 unsaved connected P c next s after saves =
     go s (subst (λ (w : Writing). Ways Positive (Unit {0}) (w.buffer ≡ next) w.answer) (sym saves) (save_kept connected P c next))
   where
-    go : (a : SaveAnswer) → Ways Positive (Unit {0}) (after ≡ next) (save_answer a) → OneOf (1 ∷ 2 ∷ 3 ∷ []) (tag_of save-tags.the_type a) → after ≡ next
+    go : (a : SaveAnswer) → Ways Positive (Unit {0}) (after ≡ next) (save_answer a) → OneOf (1 ∷ 2 ∷ 3 ∷ []) (tag_of save_tags.the_type a) → after ≡ next
     go (SaveAnswer.Written n) h k = absurd (miss (1 ∷ 2 ∷ 3 ∷ []) 0 tt k)
     go (SaveAnswer.Flawed f) h k = h.1
     go SaveAnswer.OutOfShape h k = h.1
@@ -119,7 +119,7 @@ module _ (connected : Bool) (P : Problem) (c : Checkpoint) (budget : ℕ) (works
             ∙ saved_call
 
         -- Not saved, the refusal is handed on, and both lent buffers are as they were.
-        pub search_unsaved : OneOf (1 ∷ 2 ∷ 3 ∷ []) (tag_of save-tags.the_type s) → (t : Reply) → t ≡ reply_of (save_answer s)
+        pub search_unsaved : OneOf (1 ∷ 2 ∷ 3 ∷ []) (tag_of save_tags.the_type s) → (t : Reply) → t ≡ reply_of (save_answer s)
             → resumed t 0 workspace after ≡ search_from connected P c budget workspace next
         search_unsaved arm t replied =
             ap (λ (b : List ℕ). resumed t 0 workspace b) (unsaved connected P r.checkpoint next s after saves arm)
@@ -128,7 +128,7 @@ module _ (connected : Bool) (P : Problem) (c : Checkpoint) (budget : ℕ) (works
             ∙ saved_call
 
     -- A call that is refused is handed on.
-    pub search_refused : OneOf (1 ∷ 2 ∷ 3 ∷ 4 ∷ []) (tag_of search-tags.the_type r.answer) → (t : Reply) → t ≡ reply_of (search_answer r.answer)
+    pub search_refused : OneOf (1 ∷ 2 ∷ 3 ∷ 4 ∷ []) (tag_of search_tags.the_type r.answer) → (t : Reply) → t ≡ reply_of (search_answer r.answer)
         → resumed t 0 workspace next ≡ search_from connected P c budget workspace next
     unfolding search_from
     search_refused arm t replied =
@@ -165,7 +165,7 @@ module _ (connected : Bool) (P : Problem) (bytes : List ℕ) (r : Loaded) (loads
     load_order = (load_in_shape connected P bytes (ap (λ (l : Loading). l.answer) (sym loads) ∙ ap load_answer arm)).0.old_sound.order_max
 
   -- the arm `_`: 1 to 3 are the tags of the refusals
-  module _ (t : Reply) (arm : OneOf (1 ∷ 2 ∷ 3 ∷ []) (tag_of load-tags.the_type r.answer)) (replied : t ≡ reply_of (load_answer r.answer)) where
+  module _ (t : Reply) (arm : OneOf (1 ∷ 2 ∷ 3 ∷ []) (tag_of load_tags.the_type r.answer)) (replied : t ≡ reply_of (load_answer r.answer)) where
     -- A refused load is handed on, and nothing is searched.
     pub load_not_searched : (budget : ℕ) (workspace next : List ℕ) → resumed t 0 workspace next ≡ resume_from connected P bytes budget workspace next
     unfolding resume_from

@@ -22,7 +22,7 @@ use Rattle.clique.specs.Branching.{branch}
 use Rattle.clique.specs.Call.{Called, padded, called_with, clique_answer, clique_call}
 use Rattle.clique.proofs.BranchBest.{branch_length}
 use Rattle.clique.proofs.CliquePasses.{clique_plain, passes_clique}
-use Rattle.clique.specs.contracts.CliqueAnswer as clique-tags
+use Rattle.clique.specs.contracts.CliqueAnswer as clique_tags
 use Rattle.replies.specs.declared.Reply.{Reply}
 use Rattle.replies.specs.Reply.{reply, reply_of, too_short}
 use Rattle.replies.specs.CliqueReply.{CliqueReply, clique_reply, no_mapping, held_reply, branch_reply}
@@ -94,14 +94,14 @@ module _ (P : Problem) (minimum : ℕ) (r : Branched) (called : called_of r ≡ 
         ∙ held_reply_lem mapping
 
   -- the arm `_`: 1 to 3 are the tags of the answers that hold nothing
-  off_held : (a : CliqueAnswer) → OneOf (1 ∷ 2 ∷ 3 ∷ []) (tag_of clique-tags.the_type a) → clique_answer_of a ≡ accepted 1 → ⊥
+  off_held : (a : CliqueAnswer) → OneOf (1 ∷ 2 ∷ 3 ∷ []) (tag_of clique_tags.the_type a) → clique_answer_of a ≡ accepted 1 → ⊥
   off_held CliqueAnswer.Held k e = miss (1 ∷ 2 ∷ 3 ∷ []) 0 tt k
   off_held CliqueAnswer.NothingHeld k e = let z : ◌≡◌ {A = ℕ} 0 1 = cc in omega arith
   off_held (CliqueAnswer.Flawed f) k e = true≢false (cc)
   off_held CliqueAnswer.ManyVertices k e = true≢false (cc)
 
   -- Nothing held, or a refusal, is handed on.
-  pub branch_not_held : OneOf (1 ∷ 2 ∷ 3 ∷ []) (tag_of clique-tags.the_type r.answer) → (t : Reply) → t ≡ reply_of (clique_answer_of r.answer)
+  pub branch_not_held : OneOf (1 ∷ 2 ∷ 3 ∷ []) (tag_of clique_tags.the_type r.answer) → (t : Reply) → t ≡ reply_of (clique_answer_of r.answer)
       → (mapping : List ℕ) → no_mapping mapping t ≡ branch_reply P minimum mapping
   unfolding branch_reply clique_call
   branch_not_held arm t replied mapping =

@@ -16,14 +16,14 @@ use Rattle.checkpoint.specs.declared.Checkpoint.{Checkpoint}
 use Rattle.checkpoint.specs.Checkpoints.{checkpoint_of, state_of, InShape}
 use Rattle.search.specs.Call.{Called, visits, words_needed, arrive, advance, on_passed, search_call}
 use Rattle.search.specs.ThirdProperty.{incumbent_in}
-use Rattle.search.proofs.RunTurn.{visits_finished as visits-stay}
+use Rattle.search.proofs.RunTurn.{visits_finished as visits_stay}
 use Rattle.checkpoint.proofs.CheckpointPasses.{shape_passes}
 use Rattle.checkpoint.proofs.CheckpointState.{checkpoint_of_state}
 
 -- Visits leave a finished search as it is.
 pub visits_finished : (S : Search) (minimum k : ℕ) (s : State) → s.finished ≡ true → visits S minimum k s ≡ s
 unfolding visits
-visits_finished S minimum k s end = visits-stay S minimum s 0 k end zero-le
+visits_finished S minimum k s end = visits_stay S minimum s 0 k end zero-le
 
 -- A finished state's ceiling is its cutoff.
 pub ceiling_finished : (R : Rules) (minimum : ℕ) (s : State) → s.finished ≡ true → ceiling R minimum s ≡ cutoff minimum s.incumbent

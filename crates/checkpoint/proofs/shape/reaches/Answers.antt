@@ -8,11 +8,11 @@ use types.Run.{OneOf, miss}
 use Rattle.mapping.specs.Answers.{mapping_outcome}
 use Rattle.mapping.specs.declared.MappingAnswer.{MappingAnswer}
 use Rattle.mapping.specs.contracts.MappingAnswer.{the_type}
-use Rattle.checkpoint.specs.Checkpoints.{reaches as reachesTo}
+use Rattle.checkpoint.specs.Checkpoints.{reaches as reaches_to}
 use Rattle.checkpoint.proofs.shape.reaches.Goals as goal
 
 -- 1 to 6 are the tags of the answers other than `Common`
-refused_answer : (k : ℕ) (a : MappingAnswer) → OneOf (1 ∷ 2 ∷ 3 ∷ 4 ∷ 5 ∷ 6 ∷ []) (tag_of the_type a) → reachesTo k (mapping_outcome a) ≡ false
+refused_answer : (k : ℕ) (a : MappingAnswer) → OneOf (1 ∷ 2 ∷ 3 ∷ 4 ∷ 5 ∷ 6 ∷ []) (tag_of the_type a) → reaches_to k (mapping_outcome a) ≡ false
 refused_answer k (MappingAnswer.Common n) tag = absurd (miss (1 ∷ 2 ∷ 3 ∷ 4 ∷ 5 ∷ 6 ∷ []) 0 tt tag)
 refused_answer k (MappingAnswer.Flawed f) tag = refl
 refused_answer k MappingAnswer.Length tag = refl
