@@ -12,7 +12,7 @@ import pathlib
 import re
 import sys
 
-WORD = r"[^\s(){}.;,@\"«»\[\]\\]+"
+WORD = r"[^\s(){}.;,@`\"«»\[\]\\]+"
 TOKEN = re.compile(WORD)
 # behind a dot stands a field, or a step that is named after a function
 STEP = re.compile(rf"(\.?)({WORD})")

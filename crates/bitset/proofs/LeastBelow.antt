@@ -1,4 +1,4 @@
--- The least number that passes a test: the two answers of `leastBelow`, and what each says.
+-- The least number that passes a test: the two answers of `least_below`, and what each says.
 use mathlib.Core.Path.{◌≡◌, refl}
 use mathlib.Core.Bool.{Bool, true, false, cond, ◌&&◌, and-eq-true_iff}
 use mathlib.Core.Logic.{⊎_elim}
@@ -54,7 +54,7 @@ pub least_below_empty : (k : ℕ) (t : ℕ → Bool) → least_below k t ≡ Emp
 unfolding Says
 least_below_empty k t e = rw e at (says k t)
 
--- a number that is no member above i fails the test of `leastAbove`
+-- a number that is no member above i fails the test of `least_above`
 not_above : (s i j : ℕ) → (i < j → member s j ≡ false) → (ltb i j && member s j) ≡ false
 not_above s i j none = go (ltb i j) refl
   where

@@ -89,7 +89,7 @@ incumbent_fits P c = not c.holds || reaches c.minimum (list_outcome P (take P.ol
 abbrev pub held_admitted : Bool → Problem → Checkpoint → Bool
 held_admitted connected P c = not c.holds || admits_of connected P (take P.old.order c.incumbent)
 
--- `finished-root`, `unmoved` and `moved`
+-- `finished_root`, `unmoved` and `moved`
 abbrev pub steps_fit : Checkpoint → Bool
 steps_fit c =
     (not c.finished || eqb c.depth 0)

@@ -51,7 +51,7 @@ module _ {minimum : ℕ} where
   pub kept_none : {Tried : List ℕ → Type 0} {held : Option (List ℕ)} → ((s : List ℕ) → Tried s → ⊥) → Kept minimum Tried held held
   kept_none none_Tried = same (λ s t. absurd (none_Tried s t))
 
-  -- One mapping is tried by `keepLarger`.
+  -- One mapping is tried by `keep_larger`.
   pub kept_one : (path : List ℕ) (held : Option (List ℕ)) → Kept minimum (λ s. s ≡ path) held (keep_larger minimum path held)
   unfolding keep_larger
   kept_one path held = go (leb (cutoff minimum held) (size path)) refl

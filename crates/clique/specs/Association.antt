@@ -101,7 +101,7 @@ abbrev pub modular_edge : Problem → Pair → Pair → Bool
 modular_edge P p q = both_or_neither P p q && compare_edges P p.old q.old p.new q.new
 
 -- 004, section 2.1: "with two vertices (u1, v1) and (u2, v2) being adjacent whenever: u1 ≠ u2 and v1 ≠ v2, and either (u1, u2) ∈ E1 and (v1, v2) ∈ E2 or
--- (u1, u2) ∉ E1 and (v1, v2) ∉ E2". Nothing is said of labels, and the vertices are those of `inProduct`.
+-- (u1, u2) ∉ E1 and (v1, v2) ∉ E2". Nothing is said of labels, and the vertices are those of `in_product`.
 abbrev pub unlabelled_edge : Problem → Pair → Pair → Bool
 unlabelled_edge P p q = apart p q && both_or_neither P p q
 

@@ -1,4 +1,4 @@
--- Small mappings, tested by `isConnected`: what hangs together, by edges among the mapped vertices alone, and what does not.
+-- Small mappings, tested by `is_connected`: what hangs together, by edges among the mapped vertices alone, and what does not.
 use mathlib.Core.Path.{◌≡◌, refl}
 use mathlib.Core.Bool.{true, false}
 use mathlib.Core.List.{List, [], ◌∷◌}

@@ -6,7 +6,7 @@ ghost use Rattle.graph.specs.EdgeRows.{Between, Null};
 
 use super::{MAX_ORDER, joined};
 
-// Eight bytes are 0 exactly where the number that they say is (`fromLittle-zero`).
+// Eight bytes are 0 exactly where the number that they say is (`from_little_zero`).
 fn eight_null(edges: &[u8], from: usize) -> bool
     requires { (length edges.now ≡ 4096) × (from + 8 ≤ 4096) }
     ensures { (result ≡ true) ↔ Between (Null edges.now) from (from + 8) }

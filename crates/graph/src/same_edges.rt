@@ -5,7 +5,7 @@ ghost use Rattle.graph.specs.EdgeRows.{Between, Same};
 
 use super::{MAX_ORDER, joined};
 
-// Eight bytes are those of eight others exactly where their numbers are the same (`fromLittle-injective`).
+// Eight bytes are those of eight others exactly where their numbers are the same (`from_little_injective`).
 fn eight_same(edges: &[u8], a: usize, b: usize) -> bool
     requires { (length edges.now ≡ 4096) × (a < 64) × (b + 8 ≤ 64) }
     ensures { (result ≡ true) ↔ Between (Same edges.now a) b (b + 8) }

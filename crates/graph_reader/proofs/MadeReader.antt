@@ -3,7 +3,7 @@
 --     command_val, edition_val, lent_val, made      the machine values of a command, of an edition and of a slice; the struct of a slice, a place and an edition
 --     is_edition, typed                  an edition has its machine value, and the struct its type, whichever the edition is
 --     New, to_new, goes_new, new_said   the contract of `new`; what it is passed, that the token and what the slice owns give all that it asks, and what it says of its result
--- `goes-new` takes `Logic`. The rest assumes nothing.
+-- `goes_new` takes `Logic`. The rest assumes nothing.
 use mathlib.Core.Path.{◌≡◌, refl}
 use Prim.Native.Nat.{ℕ, ◌<◌, ◌^◌}
 use mathlib.Core.List.{List, [], ◌∷◌}

@@ -50,7 +50,7 @@ list_by order row l = cond (eqb (length l) order) (on_fault (first_below (length
 unfoldable pub list_outcome : Problem → List ℕ → Outcome
 list_outcome P l = list_by P.old.order (row_fault P l) l
 
--- what follows on two sound graphs and a sound list, or their refusal; `refusedAt` is no answer about two graphs
+-- what follows on two sound graphs and a sound list, or their refusal; `refused_at` is no answer about two graphs
 abbrev pub on_problem : Answer → Outcome → Outcome
 on_problem answer o = on_answer o accepted refused refused_row answer
 

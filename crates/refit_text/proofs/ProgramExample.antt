@@ -1,4 +1,4 @@
--- 01, "The refit program": its example byte for byte, and a text of each other kind that the program prints, by `refitText`. The readings, the
+-- 01, "The refit program": its example byte for byte, and a text of each other kind that the program prints, by `refit_text`. The readings, the
 -- walk and the lines are computed; that the graphs read are sound is cited, as computing it would take minutes.
 use mathlib.Core.Path.{◌≡◌, refl, ap}
 use mathlib.Core.Bool.{true, false}

@@ -1,4 +1,4 @@
--- `descend::is_exhausted` meets its contract: at each return the tests that led there say what `isExhausted` computes to. Assumes nothing.
+-- `descend::is_exhausted` meets its contract: at each return the tests that led there say what `is_exhausted` computes to. Assumes nothing.
 use Rattle.descend.proofs.is_exhausted.Goals as goal
 
 pub returns-then-finished : goal.returns-then-finished

@@ -1,4 +1,4 @@
--- `graph::tables_fit` meets its contract: at each return the tests that led there say what `tablesFit` computes to.
+-- `graph::tables_fit` meets its contract: at each return the tests that led there say what `tables_fit` computes to.
 -- Assumes nothing.
 use borrow.Author.Tests.{eq-eqb, ne_eqb}
 use Rattle.graph.proofs.tables_fit.Goals as goal

@@ -1,4 +1,4 @@
--- `problem::allowed_sets` meets its contract: the sets of the labels meet those of the diagonals (`allowing-made`).
+-- `problem::allowed_sets` meets its contract: the sets of the labels meet those of the diagonals (`allowing_made`).
 -- Assumes nothing.
 use Rattle.problem.proofs.VertexSets.{allowing_made}
 use Rattle.problem.proofs.allowed_sets.Goals as goal

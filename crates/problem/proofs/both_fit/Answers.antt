@@ -1,4 +1,4 @@
--- `problem::both_fit` meets its contract: the tests that led to a return say what `bothFit` computes to.
+-- `problem::both_fit` meets its contract: the tests that led to a return say what `both_fit` computes to.
 -- Assumes nothing.
 use mathlib.Core.Path.{sym, ◌∙◌}
 use Rattle.problem.proofs.both_fit.Goals as goal

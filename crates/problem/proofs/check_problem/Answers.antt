@@ -1,4 +1,4 @@
--- `problem::check_problem` meets its contract: at each return the answers that led there say what `problemAnswer` computes to.
+-- `problem::check_problem` meets its contract: at each return the answers that led there say what `problem_answer` computes to.
 -- Assumes nothing.
 use mathlib.Core.Path.{◌≡◌, ap, sym, ◌∙◌}
 use mathlib.Core.Bool.{true}

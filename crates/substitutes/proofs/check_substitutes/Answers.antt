@@ -1,4 +1,4 @@
--- `substitutes::check_substitutes` meets its contract: at each return the tests that led there say what `substitutesAnswer` computes to.
+-- `substitutes::check_substitutes` meets its contract: at each return the tests that led there say what `substitutes_answer` computes to.
 -- Assumes nothing.
 use borrow.Author.Tests.{eq-eqb, ne_eqb, le-leb, lt-leb}
 use mathlib.Core.Path.{sym, ◌∙◌}

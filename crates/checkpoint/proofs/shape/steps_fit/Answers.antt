@@ -1,4 +1,4 @@
--- `checkpoint::shape::steps_fit` meets its contract: at each return the tests that led there say what `stepsFit` computes to.
+-- `checkpoint::shape::steps_fit` meets its contract: at each return the tests that led there say what `steps_fit` computes to.
 -- Assumes nothing.
 use borrow.Author.Tests.{eq-eqb, ne_eqb}
 use mathlib.Core.Path.{◌≡◌, refl}

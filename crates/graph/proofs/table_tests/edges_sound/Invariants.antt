@@ -1,5 +1,5 @@
 -- `graph::table_tests::edges_sound` meets its contract: the rows tested so far are sound, and what the tests ask of all rows is what
--- `edgesSound` asks (`EdgeRows`).
+-- `edges_sound` asks (`EdgeRows`).
 -- Assumes nothing.
 use Prim.Native.Nat.{ℕ, ◌-◌, ◌<◌}
 use Rattle.graph.specs.EdgeRows.{VertexRow}

@@ -1,4 +1,4 @@
--- `mapping::rows::check_list` meets its contract: at each return the answers that led there say what `listBy` computes to.
+-- `mapping::rows::check_list` meets its contract: at each return the answers that led there say what `list_by` computes to.
 -- Assumes nothing.
 use borrow.Author.Tests.{eq-eqb, ne_eqb}
 use mathlib.Core.Path.{ap, sym, ◌∙◌}

@@ -1,4 +1,4 @@
--- `mapping::rows::row_fault` meets its contract: at each return the tests that led there say what `lentRow` computes to.
+-- `mapping::rows::row_fault` meets its contract: at each return the tests that led there say what `lent_row` computes to.
 -- Assumes nothing.
 use borrow.Author.Tests.{eq-eqb, ne_eqb, lt-ltb, le-ltb}
 use mathlib.Core.Path.{sym, ◌∙◌}
