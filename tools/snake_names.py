@@ -7,6 +7,7 @@ A name that a file of specs/ or proofs/ declares and that begins with a small le
 `top_bound`. Types, modules, functions of src/ and whatever a file imports from the toolchain keep their names, and so do the names of
 goals, which the toolchain makes. It goes by words, over .antt and .rt files, must-fail edits and the pages' code spans.
 --check writes nothing, and lists names that would fall together.
+Later it would respell the answers to goals too: it is kept to show what the port did.
 """
 import pathlib
 import re
