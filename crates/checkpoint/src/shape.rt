@@ -28,10 +28,8 @@ pub fn filled(path: [u8; MAX_ORDER], depth: usize) -> [u8; MAX_ORDER]
     ensures { result ≡ take depth path ++ replicate (64 - depth) 255 }
 {
     let mut entries = path;
-    let mut i = depth;
-    while i < MAX_ORDER {
+    for i in depth..MAX_ORDER {
         entries[i] = UNMAPPED;
-        i += 1;
     }
     entries
 }
@@ -101,8 +99,7 @@ pub fn rest_fits(order: usize, checkpoint: Checkpoint) -> bool
     if holds {
         used = order;
     }
-    let mut i = 0;
-    while i < MAX_ORDER {
+    for i in 0..MAX_ORDER {
         if depth <= i {
             if path[i] != 0 {
                 return false;
@@ -113,7 +110,6 @@ pub fn rest_fits(order: usize, checkpoint: Checkpoint) -> bool
                 return false;
             }
         }
-        i += 1;
     }
     true
 }

@@ -17,11 +17,9 @@ pub fn read_entries(bytes: &[u8], from: usize, k: usize) -> [u8; MAX_ORDER]
 {
     let mut list = [0u8; MAX_ORDER];
     let mut at = from;
-    let mut i = 0;
-    while i < k {
+    for i in 0..k {
         list[i] = bytes[at + 1];
         at += 2;
-        i += 1;
     }
     list
 }

@@ -18,10 +18,8 @@ pub fn put_steps(steps: u64, out: &mut [u8])
     ensures { out.new ≡ sets out.old 3 (little_endian 8 steps) }
 {
     let bytes = little_endian::store(steps);
-    let mut k = 0;
-    while k < 8 {
+    for k in 0..8 {
         out[3 + k] = bytes[k];
-        k += 1;
     }
 }
 
@@ -43,12 +41,10 @@ pub fn put_entries(mark: u8, list: &[u8; MAX_ORDER], k: usize, out: &mut [u8], s
     ensures { out.new ≡ sets out.old start (entry_bytes mark list.now k) }
 {
     let mut at = start;
-    let mut i = 0;
-    while i < k {
+    for i in 0..k {
         out[at] = mark;
         out[at + 1] = list[i];
         at += 2;
-        i += 1;
     }
 }
 

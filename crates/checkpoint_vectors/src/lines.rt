@@ -49,8 +49,7 @@ pub fn saved(rt: &impl Print, answer: SaveAnswer) -> io::Result<()> {
 
 // Whether the buffer has the bytes at its front and 170 after them, as it had before.
 fn same(bytes: &[u8], buffer: &[u8]) -> bool {
-    let mut i = 0;
-    while i < buffer.len() {
+    for i in 0..buffer.len() {
         let mut due = 170;
         if i < bytes.len() {
             due = bytes[i];
@@ -58,7 +57,6 @@ fn same(bytes: &[u8], buffer: &[u8]) -> bool {
         if buffer[i] != due {
             return false;
         }
-        i += 1;
     }
     true
 }

@@ -317,11 +317,9 @@ fn put_identity(mark: u8, bytes: &mut [u8; 270], start: usize)
     requires { (length bytes.old ≡ 270) × (start ≤ 141) }
     ensures { length bytes.new ≡ 270 }
 {
-    let mut i = 0;
-    while i < 64 {
+    for i in 0..64 {
         bytes[start + 2 * i] = mark;
         bytes[start + 2 * i + 1] = i as u8;
-        i += 1;
     }
 }
 

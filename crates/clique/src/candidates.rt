@@ -20,10 +20,8 @@ pub fn taken(path: [u8; MAX_OLD], depth: usize) -> u64
     ensures { result ≡ set_of 64 (λ v. some_below depth (λ i. eqb v (get_or path i 0))) }
 {
     let mut set = 0;
-    let mut i = 0;
-    while i < depth {
+    for i in 0..depth {
         set = bitset::with(set, path[i] as usize);
-        i += 1;
     }
     set
 }
@@ -62,12 +60,10 @@ pub fn edges_fit<'a>(
     ensures { result ≡ all_below row.0 (edge_fits edges.entry path row.0 vertex.0) }
 {
     let r = row.0;
-    let mut i = 0;
-    while i < r {
+    for i in 0..r {
         if !edge_fits(edges, OldVertex(i), path[i], row, vertex) {
             return false;
         }
-        i += 1;
     }
     true
 }

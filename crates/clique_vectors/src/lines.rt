@@ -14,13 +14,11 @@ fn number(rt: &impl Print, n: u8) -> io::Result<()> {
 // A byte for each old vertex, and the bytes left over.
 fn mapping(rt: &impl Print, bytes: [u8; 8], order: usize) -> io::Result<()> {
     word(rt, b"mapping")?;
-    let mut i = 0;
-    while i < 8 {
+    for i in 0..8 {
         if i == order {
             word(rt, b", rest")?;
         }
         number(rt, bytes[i])?;
-        i += 1;
     }
     Ok(())
 }

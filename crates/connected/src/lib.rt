@@ -32,12 +32,10 @@ fn neighbours_of(edges: &[u8], vertex: OldVertex) -> u64
     ensures { result ≡ neighbours_in edges.now vertex.0 }
 {
     let mut set = 0;
-    let mut u = 0;
-    while u < MAX_ORDER {
+    for u in 0..MAX_ORDER {
         if adjacent(edges, vertex, OldVertex(u)) {
             set = bitset::with(set, u);
         }
-        u += 1;
     }
     set
 }
@@ -47,10 +45,8 @@ pub fn neighbours(edges: &[u8]) -> [u64; MAX_ORDER]
     ensures { Neighbours edges.now result }
 {
     let mut words = [0u64; MAX_ORDER];
-    let mut v = 0;
-    while v < MAX_ORDER {
+    for v in 0..MAX_ORDER {
         words[v] = neighbours_of(edges, OldVertex(v));
-        v += 1;
     }
     words
 }
@@ -69,12 +65,10 @@ fn mapped_set(mapping: &[u8]) -> u64
     ensures { result ≡ mapped_set mapping.now }
 {
     let mut set = 0;
-    let mut v = 0;
-    while v < MAX_ORDER {
+    for v in 0..MAX_ORDER {
         if is_mapped(mapping, OldVertex(v)) {
             set = bitset::with(set, v);
         }
-        v += 1;
     }
     set
 }

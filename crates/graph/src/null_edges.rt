@@ -18,12 +18,10 @@ pub fn words_null(edges: &[u8], from: usize, to: usize) -> bool
     requires { (length edges.now ≡ 4096) × (to ≤ 4096) × (from % 8 ≡ 0) × (to % 8 ≡ 0) }
     ensures { (result ≡ true) ↔ Between (Null edges.now) from to }
 {
-    let mut place = from;
-    while place < to {
+    for place in (from..to).step_by(8) {
         if !eight_null(edges, place) {
             return false;
         }
-        place += 8;
     }
     true
 }
@@ -32,12 +30,10 @@ fn bytes_null(edges: &[u8], from: usize, to: usize) -> bool
     requires { (length edges.now ≡ 4096) × (to ≤ 4096) }
     ensures { (result ≡ true) ↔ Between (Null edges.now) from to }
 {
-    let mut place = from;
-    while place < to {
+    for place in from..to {
         if edges[place] != 0 {
             return false;
         }
-        place += 1;
     }
     true
 }

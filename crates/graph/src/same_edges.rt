@@ -19,12 +19,10 @@ fn words_same(edges: &[u8], a: usize, to: usize) -> bool
     requires { (length edges.now ≡ 4096) × (a < 64) × (to ≤ 64) × (to % 8 ≡ 0) }
     ensures { (result ≡ true) ↔ Between (Same edges.now a) 0 to }
 {
-    let mut b = 0;
-    while b < to {
+    for b in (0..to).step_by(8) {
         if !eight_same(edges, a, b) {
             return false;
         }
-        b += 8;
     }
     true
 }
@@ -33,12 +31,10 @@ fn bytes_same(edges: &[u8], a: usize, from: usize) -> bool
     requires { (length edges.now ≡ 4096) × (a < 64) }
     ensures { (result ≡ true) ↔ Between (Same edges.now a) from a }
 {
-    let mut b = from;
-    while b < a {
+    for b in from..a {
         if edges[MAX_ORDER * a + b] != edges[MAX_ORDER * b + a] {
             return false;
         }
-        b += 1;
     }
     true
 }

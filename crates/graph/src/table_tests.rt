@@ -21,12 +21,10 @@ pub fn labels_sound(order: usize, labels: &[Label]) -> bool
     requires { length labels.now ≡ 64 }
     ensures { result ≡ labels_sound order labels.now }
 {
-    let mut v = 0;
-    while v < MAX_ORDER {
+    for v in 0..MAX_ORDER {
         if !label_sound(order, labels, v) {
             return false;
         }
-        v += 1;
     }
     true
 }
@@ -46,12 +44,10 @@ pub fn edges_sound(order: usize, edges: &[u8]) -> bool
     requires { (length edges.now ≡ 4096) × (order ≤ 64) }
     ensures { result ≡ edges_sound order edges.now }
 {
-    let mut a = 0;
-    while a < order {
+    for a in 0..order {
         if !row_sound(order, edges, a) {
             return false;
         }
-        a += 1;
     }
     null_edges::words_null(edges, MAX_ORDER * order, EDGE_BYTES)
 }

@@ -8,10 +8,8 @@ use graph::Label;
 pub fn clear(table: &mut [u8])
     ensures { table.new ≡ replicate (length table.old) 0 }
 {
-    let mut i = 0;
-    while i < table.len() {
+    for i in 0..table.len() {
         table[i] = 0;
-        i += 1;
     }
 }
 
@@ -19,9 +17,7 @@ pub fn clear(table: &mut [u8])
 pub fn clear_labels(table: &mut [Label])
     ensures { table.new ≡ replicate (length table.old) 0 }
 {
-    let mut v = 0;
-    while v < table.len() {
+    for v in 0..table.len() {
         table[v] = 0;
-        v += 1;
     }
 }

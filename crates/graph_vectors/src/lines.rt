@@ -26,12 +26,10 @@ pub fn other_than(value: u8, table: &[u8]) -> usize
     ensures { result ≤ length table.now }
 {
     let mut count = 0;
-    let mut i = 0;
-    while i < table.len() {
+    for i in 0..table.len() {
         if table[i] != value {
             count += 1;
         }
-        i += 1;
     }
     count
 }
@@ -47,12 +45,10 @@ pub fn labels_used(labels: &[Label]) -> usize
     ensures { result ≤ length labels.now }
 {
     let mut count = 0;
-    let mut v = 0;
-    while v < labels.len() {
+    for v in 0..labels.len() {
         if labels[v] != 0 {
             count += 1;
         }
-        v += 1;
     }
     count
 }
@@ -69,23 +65,19 @@ fn say_label(rt: &impl Print, label: Label) -> io::Result<()> {
 
 // The first `count` bytes, or all where there are fewer; and so for labels.
 pub fn say_bytes(rt: &impl Print, bytes: &[u8], count: usize) -> io::Result<()> {
-    let mut i = 0;
-    while i < bytes.len() {
+    for i in 0..bytes.len() {
         if i < count {
             say_byte(rt, bytes[i])?;
         }
-        i += 1;
     }
     Ok(())
 }
 
 pub fn say_labels(rt: &impl Print, labels: &[Label], count: usize) -> io::Result<()> {
-    let mut v = 0;
-    while v < labels.len() {
+    for v in 0..labels.len() {
         if v < count {
             say_label(rt, labels[v])?;
         }
-        v += 1;
     }
     Ok(())
 }

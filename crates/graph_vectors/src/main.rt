@@ -121,11 +121,9 @@ fn vertices(n: usize) -> [u8; 198]
     let mut out = [0u8; 198];
     out[0] = 4;
     out[1] = 2;
-    let mut v = 0;
-    while v < n {
+    for v in 0..n {
         out[3 * v + 2] = 3;
         out[3 * v + 3] = 7;
-        v += 1;
     }
     out
 }
@@ -379,12 +377,10 @@ fn every_edge() -> [u8; 4096]
     ensures { 4096 ≡ length result }
 {
     let mut edges = [0u8; 4096];
-    let mut i = 0;
-    while i < 4096 {
+    for i in 0..4096 {
         if i % 65 != 0 {
             edges[i] = 5;
         }
-        i += 1;
     }
     edges
 }
@@ -566,10 +562,8 @@ fn labels_of(order: usize) -> [Label; 64]
     ensures { 64 ≡ length result }
 {
     let mut labels = [0u16; 64];
-    let mut v = 0;
-    while v < order {
+    for v in 0..order {
         labels[v] = 7;
-        v += 1;
     }
     labels
 }
@@ -582,8 +576,7 @@ fn sound_tables(order: usize, both_ways: bool) -> usize
     let labels = labels_of(order);
     let mut edges = [0u8; 4096];
     let mut count = 0;
-    let mut place = 0;
-    while place < 4096 {
+    for place in 0..4096 {
         let mut other = place;
         if both_ways {
             other = 64 * (place % 64) + place / 64;
@@ -595,7 +588,6 @@ fn sound_tables(order: usize, both_ways: bool) -> usize
         }
         edges[place] = 0;
         edges[other] = 0;
-        place += 1;
     }
     count
 }

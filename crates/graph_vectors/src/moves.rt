@@ -238,12 +238,10 @@ pub fn room(rt: &impl Print) -> io::Result<()> {
 // How many places two files of the greatest length differ at.
 fn differing(a: &[u8; 8515], b: &[u8; 8515]) -> usize {
     let mut count = 0;
-    let mut i = 0;
-    while i < 8515 {
+    for i in 0..8515 {
         if a[i] != b[i] {
             count += 1;
         }
-        i += 1;
     }
     count
 }

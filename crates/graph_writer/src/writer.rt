@@ -35,12 +35,10 @@ pub fn count_row(order: usize, edges: &[u8], a: usize) -> usize
     ensures { result ≡ row_edge_count (graph order [] edges.now) a }
 {
     let mut count = 0;
-    let mut b = 0;
-    while b < order {
+    for b in 0..order {
         if is_listed(edges, a, b) {
             count += 1;
         }
-        b += 1;
     }
     count
 }
@@ -50,10 +48,8 @@ pub fn count_edges(order: usize, edges: &[u8]) -> usize
     ensures { result ≡ edge_count (graph order [] edges.now) }
 {
     let mut count = 0;
-    let mut a = 0;
-    while a < order {
+    for a in 0..order {
         count += count_row(order, edges, a);
-        a += 1;
     }
     count
 }
@@ -121,10 +117,8 @@ pub fn write_vertices(
     ensures { out.new ≡ sets out.old start (run_below order (vertex_bytes edition (graph order labels.now []))) }
 {
     let mut at = start;
-    let mut v = 0;
-    while v < order {
+    for v in 0..order {
         at = put_vertex(edition, labels[v], out, at);
-        v += 1;
     }
 }
 
@@ -135,13 +129,11 @@ pub fn write_row(order: usize, edges: &[u8], a: usize, out: &mut [u8], start: us
     ensures bytes { out.new ≡ sets out.old start (row_bytes (graph order [] edges.now) a) }
 {
     let mut at = start;
-    let mut b = 0;
-    while b < order {
+    for b in 0..order {
         if is_listed(edges, a, b) {
             put_edge(out, at, a as u8, b as u8, edges[MAX_ORDER * a + b]);
             at += 4;
         }
-        b += 1;
     }
     at
 }
@@ -152,10 +144,8 @@ pub fn write_rows(order: usize, edges: &[u8], out: &mut [u8], start: usize) -> u
     ensures bytes { out.new ≡ sets out.old start (run_below order (row_bytes (graph order [] edges.now))) }
 {
     let mut at = start;
-    let mut a = 0;
-    while a < order {
+    for a in 0..order {
         at = write_row(order, edges, a, out, at);
-        a += 1;
     }
     at
 }

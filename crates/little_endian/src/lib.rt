@@ -11,11 +11,9 @@ pub fn store(x: u64) -> [u8; 8]
 {
     let mut bytes = [0u8; 8];
     let mut rest = x;
-    let mut i = 0;
-    while i < 8 {
+    for i in 0..8 {
         bytes[i] = (rest % 256) as u8;
         rest /= 256;
-        i += 1;
     }
     bytes
 }

@@ -156,12 +156,10 @@ pub fn size(mapping: &[u8]) -> usize
     ensures { result ≡ size_of mapping.now }
 {
     let mut count = 0;
-    let mut v = 0;
-    while v < mapping.len() {
+    for v in 0..mapping.len() {
         if mapping[v] != UNMAPPED {
             count += 1;
         }
-        v += 1;
     }
     count
 }

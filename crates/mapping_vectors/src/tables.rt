@@ -97,10 +97,8 @@ pub fn edges_lent(harm: Harm) -> usize
 pub fn fill_pairs(bytes: &mut [u8])
     requires { length bytes.old ≡ 1028 }
 {
-    let mut k = 0;
-    while k < 257 {
+    for k in 0..257 {
         bytes[4 * k] = 7;
         bytes[4 * k + 2] = 9;
-        k += 1;
     }
 }

@@ -9,13 +9,11 @@ pub fn diagonal(edges: &[u8]) -> [Label; MAX_ORDER]
     ensures { Diagonal edges.now result }
 {
     let mut own: [Label; MAX_ORDER] = [0; MAX_ORDER];
-    let mut v = 0;
-    while v < MAX_ORDER {
+    for v in 0..MAX_ORDER {
         let at = MAX_ORDER * v + v;
         if at < edges.len() {
             own[v] = edges[at] as Label;
         }
-        v += 1;
     }
     own
 }
@@ -24,10 +22,8 @@ pub fn meet_all(first: [u64; MAX_ORDER], second: [u64; MAX_ORDER]) -> [u64; MAX_
     ensures { MetAll first second result }
 {
     let mut words = [0u64; MAX_ORDER];
-    let mut v = 0;
-    while v < MAX_ORDER {
+    for v in 0..MAX_ORDER {
         words[v] = bitset::meet(first[v], second[v]);
-        v += 1;
     }
     words
 }

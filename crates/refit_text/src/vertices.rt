@@ -17,12 +17,10 @@ fn put_kept(mapping: &[u8], out: &mut [u8], start: usize) -> usize
     ensures { Put (keep_lines mapping.now) out.old start result out.new }
 {
     let mut at = start;
-    let mut v = 0;
-    while v < mapping.len() {
+    for v in 0..mapping.len() {
         if mapping[v] != UNMAPPED {
             at = put_keep(OldVertex(v), NewVertex(mapping[v] as usize), out, at);
         }
-        v += 1;
     }
     at
 }
@@ -31,12 +29,10 @@ fn put_removed(mapping: &[u8], out: &mut [u8], start: usize) -> usize
     ensures { Put (remove_lines mapping.now) out.old start result out.new }
 {
     let mut at = start;
-    let mut v = 0;
-    while v < mapping.len() {
+    for v in 0..mapping.len() {
         if mapping[v] == UNMAPPED {
             at = text::put_number_line(b"remove ", v as u64, out, at);
         }
-        v += 1;
     }
     at
 }
@@ -45,12 +41,10 @@ fn put_removed(mapping: &[u8], out: &mut [u8], start: usize) -> usize
 fn is_free(mapping: &[u8], w: NewVertex) -> bool
     ensures { result ≡ is_free mapping.now w.0 }
 {
-    let mut v = 0;
-    while v < mapping.len() {
+    for v in 0..mapping.len() {
         if mapping[v] as usize == w.0 {
             return false;
         }
-        v += 1;
     }
     true
 }
@@ -59,12 +53,10 @@ fn put_fitted(new_order: usize, mapping: &[u8], out: &mut [u8], start: usize) ->
     ensures { Put (fit_lines new_order mapping.now) out.old start result out.new }
 {
     let mut at = start;
-    let mut w = 0;
-    while w < new_order {
+    for w in 0..new_order {
         if is_free(mapping, NewVertex(w)) {
             at = text::put_number_line(b"fit ", w as u64, out, at);
         }
-        w += 1;
     }
     at
 }

@@ -16,10 +16,8 @@ fn put_front(list: &[u8], k: usize, out: &mut [u8])
     requires { (k ≤ length list.now) × (k ≤ length out.old) }
     ensures { out.new ≡ overwrite (take k list.now) out.old }
 {
-    let mut i = 0;
-    while i < k {
+    for i in 0..k {
         out[i] = list[i];
-        i += 1;
     }
 }
 

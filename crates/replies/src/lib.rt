@@ -170,10 +170,8 @@ pub fn clear_words(workspace: &mut [u64])
     ensures { workspace.new ≡ used_cleared workspace.old }
 {
     let used = words_used(workspace.len());
-    let mut i = 0;
-    while i < used {
+    for i in 0..used {
         workspace[i] = 0;
-        i += 1;
     }
 }
 

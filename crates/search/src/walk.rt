@@ -91,10 +91,8 @@ pub fn row_numbers() -> [u8; MAX_ORDER]
     ensures { Numbers result }
 {
     let mut numbers = [0u8; MAX_ORDER];
-    let mut i = 0;
-    while i < MAX_ORDER {
+    for i in 0..MAX_ORDER {
         numbers[i] = ((i + 1) % 256) as u8;
-        i += 1;
     }
     numbers
 }
@@ -118,10 +116,8 @@ pub fn move_back(numbers: &[u8; MAX_ORDER], path: &mut [u8; MAX_ORDER], depth: u
     requires { Numbers numbers.now × (length path.old ≡ 64) }
     ensures { Moved path.old depth last path.new }
 {
-    let mut i = 0;
-    while i < MAX_ORDER {
+    for i in 0..MAX_ORDER {
         path[i] = entry(numbers[i], depth, path[i], last);
-        i += 1;
     }
 }
 
@@ -130,14 +126,12 @@ pub fn move_down(numbers: &[u8; MAX_ORDER], path: &mut [u8; MAX_ORDER], depth: u
     requires { Numbers numbers.now × (length path.old ≡ 64) × RestZero path.old depth }
     ensures { Moved path.old depth last path.new }
 {
-    let mut i = 0;
-    while i < MAX_ORDER {
+    for i in 0..MAX_ORDER {
         let mut entry = path[i];
         if numbers[i] == depth {
             entry = last;
         }
         path[i] = entry;
-        i += 1;
     }
 }
 
@@ -478,9 +472,8 @@ pub fn rebuild(
         → Words P path.now depth workspace.new }
     ensures trail { Trail path.now depth trail.new workspace.new }
 {
-    let mut row = 0;
     let mut pairs = 0;
-    while row < depth {
+    for row in 0..depth {
         let value = path[row];
         if value != UNMAPPED {
             let later = words::count_open(workspace, row + 1, pairs);
@@ -498,6 +491,5 @@ pub fn rebuild(
             );
             pairs += 1;
         }
-        row += 1;
     }
 }

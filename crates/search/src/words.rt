@@ -30,14 +30,12 @@ pub fn mask_row(order: usize, edges: &[u8], vertex: NewVertex, masks: &mut [u64]
     ensures { MaskRow (graph order [] edges.now) vertex.0 masks.old masks.new }
 {
     let w = vertex.0;
-    let mut v = 0;
-    while v < order {
+    for v in 0..order {
         if v != w {
             let label = edges[MAX_ORDER * w + v] as usize;
             let at = EDGE_LABELS * w + label;
             masks[at] = bitset::with(masks[at], v);
         }
-        v += 1;
     }
 }
 
@@ -46,10 +44,8 @@ pub fn fill_masks(order: usize, edges: &[u8], masks: &mut [u64])
     requires { (length edges.now ≡ 4096) × (masks.old ≡ replicate 16384 0) × (order ≤ 64) }
     ensures { Masks (graph order [] edges.now) masks.new }
 {
-    let mut w = 0;
-    while w < order {
+    for w in 0..order {
         mask_row(order, edges, NewVertex(w), masks);
-        w += 1;
     }
 }
 
@@ -60,14 +56,12 @@ pub fn root_words(order: usize, allowed: &[u64; MAX_ORDER], workspace: &mut [u64
         → RootWords P workspace.old workspace.new }
 {
     let mut rows = 0;
-    let mut r = 0;
-    while r < order {
+    for r in 0..order {
         let word = allowed[r];
         workspace[r] = word;
         if !bitset::is_empty(word) {
             rows = bitset::with(rows, r);
         }
-        r += 1;
     }
     workspace[OPEN_SETS] = rows;
 }
@@ -88,12 +82,10 @@ pub fn many_edges(order: usize, edges: &[u8]) -> bool
     requires { (length edges.now ≡ 4096) × (order ≤ 64) }
 {
     let mut count = 0;
-    let mut i = 0;
-    while i < edges.len() {
+    for i in 0..edges.len() {
         if edges[i] != 0 {
             count += 1;
         }
-        i += 1;
     }
     order * order < 6 * count
 }
@@ -105,14 +97,12 @@ pub fn first_rows(many: bool, edges: &[u8], row: OldVertex) -> u64
 {
     let from = row.0;
     let mut word = 0;
-    let mut r = from + 1;
-    while r < MAX_ORDER {
+    for r in from + 1..MAX_ORDER {
         if many {
             word = bitset::with(word, r);
         } else if edges[MAX_ORDER * from + r] != 0 {
             word = bitset::with(word, r);
         }
-        r += 1;
     }
     word
 }
@@ -124,10 +114,8 @@ pub fn all_first(order: usize, edges: &[u8]) -> [u64; MAX_ORDER]
 {
     let many = many_edges(order, edges);
     let mut first = [0u64; MAX_ORDER];
-    let mut row = 0;
-    while row < MAX_ORDER {
+    for row in 0..MAX_ORDER {
         first[row] = first_rows(many, edges, OldVertex(row));
-        row += 1;
     }
     first
 }
@@ -278,9 +266,7 @@ pub fn clear_words(workspace: &mut [u64])
     requires { 4160 ≤ length workspace.old }
     ensures { workspace.new ≡ replicate 4160 0 ++ drop 4160 workspace.old }
 {
-    let mut i = 0;
-    while i < WORDS {
+    for i in 0..WORDS {
         workspace[i] = 0;
-        i += 1;
     }
 }

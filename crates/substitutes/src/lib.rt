@@ -40,15 +40,13 @@ fn labels_sound(list: &[u8]) -> bool
     ensures { result ≡ all_below (pairs list.now) (pair_sound list.now) }
 {
     let count = list.len() / PAIR_BYTES;
-    let mut k = 0;
-    while k < count {
+    for k in 0..count {
         if label_at(list, PAIR_BYTES * k) == 0 {
             return false;
         }
         if label_at(list, PAIR_BYTES * k + 2) == 0 {
             return false;
         }
-        k += 1;
     }
     true
 }

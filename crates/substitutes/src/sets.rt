@@ -18,11 +18,9 @@ pub fn places(labels: &[Label], unit: Label) -> [u64; BYTES]
     ensures { Places labels.now unit result }
 {
     let mut sets = [0u64; BYTES];
-    let mut w = 0;
-    while w < labels.len() {
+    for w in 0..labels.len() {
         let byte = (labels[w] / unit % 256) as usize;
         sets[byte] = bitset::with(sets[byte], w);
-        w += 1;
     }
     sets
 }
@@ -51,12 +49,10 @@ pub fn equal(old: &[Label], low: &[u64; BYTES], high: &[u64; BYTES]) -> [u64; MA
     ensures { Equal old.now low.now high.now result }
 {
     let mut words = [0u64; MAX_ORDER];
-    let mut v = 0;
-    while v < MAX_ORDER {
+    for v in 0..MAX_ORDER {
         if v < old.len() {
             words[v] = having(low, high, old[v]);
         }
-        v += 1;
     }
     words
 }
@@ -73,13 +69,11 @@ pub fn joined(
 {
     let mut sets = [0u64; FIRST_PLACES];
     let count = list.len() / super::PAIR_BYTES;
-    let mut k = 0;
-    while k < count {
+    for k in 0..count {
         let old = super::label_at(list, super::PAIR_BYTES * k);
         let new = super::label_at(list, super::PAIR_BYTES * k + 2);
         let first = first_having(old_low, old_high, old);
         sets[first] = bitset::union(sets[first], having(new_low, new_high, new));
-        k += 1;
     }
     sets
 }
@@ -95,13 +89,11 @@ pub fn spread(
     ensures { Spread old.now low.now high.now joined.now equal result }
 {
     let mut words = equal;
-    let mut v = 0;
-    while v < MAX_ORDER {
+    for v in 0..MAX_ORDER {
         if v < old.len() {
             let first = first_having(low, high, old[v]);
             words[v] = bitset::union(equal[v], joined[first]);
         }
-        v += 1;
     }
     words
 }

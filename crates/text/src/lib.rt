@@ -21,10 +21,8 @@ pub fn put(bytes: &[u8], out: &mut [u8], at: usize) -> usize
     ensures { Put bytes.now out.old at result out.new }
 {
     let mut place = at;
-    let mut i = 0;
-    while i < bytes.len() {
+    for i in 0..bytes.len() {
         place = put_byte(bytes[i], out, place);
-        i += 1;
     }
     place
 }

@@ -6,6 +6,3 @@ use Rattle.graph.proofs.null_edges.bytes_null.Given as goal
 
 abbrev pub invariant-loop-place : goal.invariant-loop-place
 invariant-loop-place l = (l.from ≤ l.place) × Between (Null l.edges) l.from l.place
-
-abbrev pub decreases-loop-place : goal.decreases-loop-place
-decreases-loop-place l = l.to - l.place

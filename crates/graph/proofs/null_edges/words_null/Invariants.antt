@@ -7,6 +7,3 @@ use Rattle.graph.proofs.null_edges.words_null.Given as goal
 
 abbrev pub invariant-loop-place : goal.invariant-loop-place
 invariant-loop-place l = (l.from ≤ l.place) × (l.place % 8 ≡ 0) × Between (Null l.edges) l.from l.place
-
-abbrev pub decreases-loop-place : goal.decreases-loop-place
-decreases-loop-place l = l.to - l.place

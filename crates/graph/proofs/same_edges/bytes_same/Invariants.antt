@@ -6,6 +6,3 @@ use Rattle.graph.proofs.same_edges.bytes_same.Given as goal
 
 abbrev pub invariant-loop-b : goal.invariant-loop-b
 invariant-loop-b l = (l.from ≤ l.b) × Between (Same l.edges l.a) l.from l.b
-
-abbrev pub decreases-loop-b : goal.decreases-loop-b
-decreases-loop-b l = l.a - l.b

@@ -7,6 +7,3 @@ use Rattle.graph.proofs.same_edges.words_same.Given as goal
 
 abbrev pub invariant-loop-b : goal.invariant-loop-b
 invariant-loop-b l = (l.b % 8 ≡ 0) × Between (Same l.edges l.a) 0 l.b
-
-abbrev pub decreases-loop-b : goal.decreases-loop-b
-decreases-loop-b l = l.to - l.b

@@ -7,6 +7,3 @@ use Rattle.graph.proofs.table_tests.edges_sound.Given as goal
 
 abbrev pub invariant-loop-a : goal.invariant-loop-a
 invariant-loop-a l = (k : ℕ) → k < l.a → VertexRow l.order l.edges k
-
-abbrev pub decreases-loop-a : goal.decreases-loop-a
-decreases-loop-a l = l.order - l.a

@@ -7,6 +7,3 @@ use Rattle.graph.proofs.table_tests.labels_sound.Given as goal
 
 abbrev pub invariant-loop-v : goal.invariant-loop-v
 invariant-loop-v l = PassedTo 64 (label_sound l.order l.labels) l.v
-
-abbrev pub decreases-loop-v : goal.decreases-loop-v
-decreases-loop-v l = 64 - l.v
