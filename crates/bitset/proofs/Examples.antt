@@ -6,7 +6,7 @@ use lib.Dec.{eqb}
 use Rattle.bitset.specs.Members.{member, set_of, meet_of, insert, members_from}
 use Rattle.bitset.specs.Count.{count_below, size}
 use Rattle.bitset.specs.Least.{least_below, least_member, least_above, without_least}
-use Rattle.bitset.specs.declared.Least.TheVariants.{Member, Empty}
+use Rattle.std.specs.Prelude.{Some, None}
 
 abbrev word : ℕ
 word = 0x8000_0000_0000_000b
@@ -27,23 +27,23 @@ four : size word ≡ 4
 unfolding count_below member
 four = refl
 
-least : least_member word ≡ Member 0
+least : least_member word ≡ Some 0
 unfolding least_below member
 least = refl
 
-above_one : least_above word 1 ≡ Member 3
+above_one : least_above word 1 ≡ Some 3
 unfolding least_below member
 above_one = refl
 
-above_three : least_above word 3 ≡ Member 63
+above_three : least_above word 3 ≡ Some 63
 unfolding least_below member
 above_three = refl
 
-above_last : least_above word 63 ≡ Empty
+above_last : least_above word 63 ≡ None
 unfolding least_below member
 above_last = refl
 
-none : least_member 0 ≡ Empty
+none : least_member 0 ≡ None
 unfolding least_below member
 none = refl
 

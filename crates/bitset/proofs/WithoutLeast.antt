@@ -13,7 +13,7 @@ use lib.Bits.{bit_and, and_block, and_self, and_mask}
 use Rattle.bitset.specs.Members.{member, members_from}
 use Rattle.bitset.specs.Count.{size}
 use Rattle.bitset.specs.Least.{least_member, without_least, IsLeast}
-use Rattle.bitset.specs.declared.Least.TheVariants.{Member}
+use Rattle.std.specs.Prelude.{Some}
 use Rattle.bitset.proofs.Membership.{digit, digit_member, member_mod}
 use Rattle.bitset.proofs.SetOf.{set_of_congr, member_set_of, no_member}
 use Rattle.bitset.proofs.CountBelow.{count_below_one}
@@ -21,11 +21,11 @@ use Rattle.bitset.proofs.LeastBelow.{least_below_member}
 use Rattle.bitset.proofs.MembersFrom.{members_from_cleared}
 
 -- A member of the set without its least member m is a member that is not m.
-pub member_without_least : (s m j : ℕ) → least_member s ≡ Member m → j < 64 → member (without_least s) j ≡ (not (eqb j m) && member s j)
+pub member_without_least : (s m j : ℕ) → least_member s ≡ Some m → j < 64 → member (without_least s) j ≡ (not (eqb j m) && member s j)
 member_without_least s m j e h = rw e (member_set_of 64 (λ j. not (eqb j m) && member s j) j h)
 
 -- Without its least member m, a set has its members from m + 1 on.
-pub without_least_from : (s m : ℕ) → least_member s ≡ Member m → without_least s ≡ members_from s (m + 1)
+pub without_least_from : (s m : ℕ) → least_member s ≡ Some m → without_least s ≡ members_from s (m + 1)
 without_least_from s m e =
     rw e (set_of_congr 64 (λ j. not (eqb j m) && member s j) (λ j. leb (m + 1) j && member s j) (λ j h. same j (dec_lt m j) (ℕ_discrete j m)))
   where
@@ -71,18 +71,18 @@ and_less_one {k} {m} s least =
     less = omega (arith, whole, pow_pos m)
 
 -- A word without its least member is its `&` with the word less 1,
-pub without_least_and : {s : ℕ} (m : ℕ) → s < 2 ^ 64 → least_member s ≡ Member m → without_least s ≡ bit_and s (s - 1)
+pub without_least_and : {s : ℕ} (m : ℕ) → s < 2 ^ 64 → least_member s ≡ Some m → without_least s ≡ bit_and s (s - 1)
 without_least_and {s} m h e =
     without_least_from s m e ∙ members_from_cleared (m + 1) h ∙ sym (and_less_one s (least_below_member 64 (member s) e))
 
 -- and a smaller word.
-pub without_least_smaller : (s m : ℕ) → s < 2 ^ 64 → least_member s ≡ Member m → without_least s < s
+pub without_least_smaller : (s m : ℕ) → s < 2 ^ 64 → least_member s ≡ Some m → without_least s < s
 without_least_smaller s m h e =
     rw (without_least_from s m e ∙ members_from_cleared (m + 1) h)
     (omega (arith, least_split (least_below_member 64 (member s) e), pow_pos m))
 
 -- It has one member less.
-pub size_without_least : (s m : ℕ) → least_member s ≡ Member m → size s ≡ size (without_least s) + 1
+pub size_without_least : (s m : ℕ) → least_member s ≡ Some m → size s ≡ size (without_least s) + 1
 size_without_least s m e =
     let least = least_below_member 64 (member s) e in
     count_below_one 64 m (member (without_least s)) (member s) least.below

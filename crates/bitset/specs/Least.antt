@@ -1,31 +1,31 @@
 -- The least number that passes a test, the least member of a set, and the set without it.
 use Rattle.std.specs.Prelude.{◌≡◌, Bool, true, false, cond, ◌&&◌, not, ℕ, zero, suc, ◌<◌, ltb, eqb}
 use Rattle.bitset.specs.Members.{member, set_of}
-use Rattle.bitset.specs.declared.Least.{Least}
-use Rattle.bitset.specs.declared.Least.TheVariants.{Member, Empty}
+use Rattle.std.specs.Prelude.{Option}
+use Rattle.std.specs.Prelude.{Some, None}
 
--- the first answer, or the other where the first is Empty
-abbrev pub or_else : Least → Least → Least
-or_else (Member i) other = Member i
-or_else Empty other = other
+-- the first answer, or the other where the first is None
+abbrev pub or_else : Option ℕ → Option ℕ → Option ℕ
+or_else (Some i) other = Some i
+or_else None other = other
 
 -- the least of the numbers below k that pass the test
-unfoldable pub least_below : ℕ → (ℕ → Bool) → Least
-least_below zero test = Empty
-least_below (suc k) test = or_else (least_below k test) (cond (test k) (Member k) Empty)
+unfoldable pub least_below : ℕ → (ℕ → Bool) → Option ℕ
+least_below zero test = None
+least_below (suc k) test = or_else (least_below k test) (cond (test k) (Some k) None)
 
 -- the least member of s below 64
-abbrev pub least_member : ℕ → Least
+abbrev pub least_member : ℕ → Option ℕ
 least_member s = least_below 64 (member s)
 
 -- the least member of s that is greater than i, and below 64
-abbrev pub least_above : ℕ → ℕ → Least
+abbrev pub least_above : ℕ → ℕ → Option ℕ
 least_above s i = least_below 64 (λ j. ltb i j && member s j)
 
 -- the set without the member found
-abbrev pub drop_found : ℕ → Least → ℕ
-drop_found s (Member m) = set_of 64 (λ j. not (eqb j m) && member s j)
-drop_found s Empty = 0
+abbrev pub drop_found : ℕ → Option ℕ → ℕ
+drop_found s (Some m) = set_of 64 (λ j. not (eqb j m) && member s j)
+drop_found s None = 0
 
 -- the numbers below 64 that are members of s, but not its least
 abbrev pub without_least : ℕ → ℕ

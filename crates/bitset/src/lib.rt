@@ -6,12 +6,6 @@ ghost use Rattle.bitset.specs.Members.{member, meet_of, union_of, difference_of,
 ghost use Rattle.bitset.specs.Count.{size};
 ghost use Rattle.bitset.specs.Least.{least_member, least_above, without_least};
 
-#[derive(Clone, Copy)]
-pub enum Least {
-    Member(usize),
-    Empty,
-}
-
 pub fn size(s: u64) -> u32
     ensures { result ≡ size s }
 {
@@ -25,32 +19,32 @@ pub fn is_empty(s: u64) -> bool
     u64::count_ones(s) == 0
 }
 
-pub fn least_member(s: u64) -> Least
+pub fn least_member(s: u64) -> Option<usize>
     ensures { result ≡ least_member s }
 {
     if s == 0 {
-        Least::Empty
+        None
     } else {
         let lowest = u64::trailing_zeros(s) as usize;
-        Least::Member(lowest)
+        Some(lowest)
     }
 }
 
 // The least member greater than `i`, which may be any number.
-pub fn least_above(s: u64, i: usize) -> Least
+pub fn least_above(s: u64, i: usize) -> Option<usize>
     ensures { result ≡ least_above s i }
 {
     if 63 <= i {
-        return Least::Empty;
+        return None;
     }
     let above = i + 1;
     let rest = s >> above;
     if rest == 0 {
-        Least::Empty
+        None
     } else {
         let lowest = u64::trailing_zeros(rest) as usize;
         let found = lowest + above;
-        Least::Member(found)
+        Some(found)
     }
 }
 

@@ -7,7 +7,7 @@ use lib.Dec.{eqb}
 use borrow.Author.Tests.{eq-eqb, ne_eqb}
 use Rattle.bitset.specs.Members.{member, set_of, insert}
 use Rattle.bitset.specs.Least.{least_member, without_least, IsLeast}
-use Rattle.bitset.specs.declared.Least.TheVariants.{Member, Empty}
+use Rattle.std.specs.Prelude.{Some, None}
 use Rattle.bitset.proofs.SetOf.{set_of_lt, set_of_congr, insert_set_of, no_member, member_set_of}
 use Rattle.bitset.proofs.LeastBelow.{least_below_member, least_below_empty}
 use Rattle.bitset.proofs.WithoutLeast.{member_without_least}
@@ -33,7 +33,7 @@ module _ (s : ℕ) (test : ℕ → Bool) where
       go true b = refl
       go false b = refl
 
-  module _ {rest word v : ℕ} (g : GatheredTo s test rest word) (found : least_member rest ≡ Member v) {next : ℕ} (left : next ≡ without_least rest) where
+  module _ {rest word v : ℕ} (g : GatheredTo s test rest word) (found : least_member rest ≡ Some v) {next : ℕ} (left : next ≡ without_least rest) where
     -- of what is left next, v is no member
     others : (j : ℕ) → j < 64 → member next j ≡ (not (eqb j v) && member rest j)
     others j h = ap (λ (n : ℕ). member n j) left ∙ member_without_least rest v j found h
@@ -69,6 +69,6 @@ module _ (s : ℕ) (test : ℕ → Bool) where
         same j h (no n) = rw (others j h, ne_eqb j v n)
 
   -- In the end all members that pass are gathered.
-  pub gathered_all : {rest word : ℕ} → GatheredTo s test rest word → least_member rest ≡ Empty → word ≡ set_of 64 (λ v. member s v && test v)
+  pub gathered_all : {rest word : ℕ} → GatheredTo s test rest word → least_member rest ≡ None → word ≡ set_of 64 (λ v. member s v && test v)
   gathered_all {rest} g none =
       g.gathered ∙ set_of_congr 64 _ _ (λ v h. rw (least_below_empty 64 (member rest) none v h, and-true) refl)

@@ -9,7 +9,7 @@ use lib.ListN.{length, set, take}
 use lib.Seq.{length-take-le, take-suc-set}
 use Rattle.bitset.specs.Members.{set_of}
 use Rattle.bitset.specs.Least.{least_member, without_least}
-use Rattle.bitset.specs.declared.Least.TheVariants.{Member, Empty}
+use Rattle.std.specs.Prelude.{Some, None}
 use Rattle.mapping.specs.Common.{unmapped}
 use Rattle.search_tree.specs.Rules.{Rules}
 use Rattle.search_tree.specs.Node.{candidate, choices, extend}
@@ -50,13 +50,13 @@ module _ (R : Rules) (minimum : ℕ) (path : List ℕ) (depth : ℕ) (held : Opt
 
     module _ (k s : ℕ) where
       -- Where no candidate is left, the row is left out.
-      pub no_candidate : least_member s ≡ Empty
+      pub no_candidate : least_member s ≡ None
           → branch_row R minimum (2 * k) (take (depth + 1) (set path depth unmapped)) held
           ≡ branch_choices R minimum (2 * k + 1) (take depth path) (choices_of s) held
       no_candidate e = rw (choices_of_empty s e, choices_last, next_path)
 
       -- The least candidate that is left is taken, and then come the others.
-      pub least_candidate : (v : ℕ) → least_member s ≡ Member v → {rest : ℕ} → rest ≡ without_least s
+      pub least_candidate : (v : ℕ) → least_member s ≡ Some v → {rest : ℕ} → rest ≡ without_least s
           → branch_choices R minimum (2 * k + 1) (take depth path) (choices_of rest) (branch_row R minimum (2 * k) (take (depth + 1) (set path depth v)) held)
           ≡ branch_choices R minimum (2 * k + 1) (take depth path) (choices_of s) held
       least_candidate v e q = rw (q, choices_of_least s v e, choices_turns, next_path)

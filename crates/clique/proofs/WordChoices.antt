@@ -6,7 +6,7 @@ use native.Mathlib.Omega.{arith}
 use lib.ListN.{length}
 use Rattle.bitset.specs.Members.{member, set_of}
 use Rattle.bitset.specs.Least.{least_member, without_least}
-use Rattle.bitset.specs.declared.Least.TheVariants.{Member, Empty}
+use Rattle.std.specs.Prelude.{Some, None}
 use Rattle.bitset.proofs.SetOf.{member_set_of}
 use Rattle.bitset.proofs.LeastBelow.{least_below_member, least_below_empty}
 use Rattle.bitset.proofs.WithoutLeast.{member_without_least}
@@ -18,11 +18,11 @@ use Rattle.search_tree.proofs.Candidates.{candidate_outside}
 use Rattle.clique.specs.LentRules.{choices_of}
 
 -- Of no candidates, none is the only choice.
-pub choices_of_empty : (s : ℕ) → least_member s ≡ Empty → choices_of s ≡ unmapped ∷ []
+pub choices_of_empty : (s : ℕ) → least_member s ≡ None → choices_of s ≡ unmapped ∷ []
 choices_of_empty s e = ap (λ (l : List ℕ). l ++ (unmapped ∷ [])) (passing_none (member s) 64 (least_below_empty 64 (member s) e))
 
 -- The least candidate is the first choice.
-pub choices_of_least : (s v : ℕ) → least_member s ≡ Member v → choices_of s ≡ v ∷ choices_of (without_least s)
+pub choices_of_least : (s v : ℕ) → least_member s ≡ Some v → choices_of s ≡ v ∷ choices_of (without_least s)
 choices_of_least s v e =
     let least = least_below_member 64 (member s) e in
     ap (λ (l : List ℕ). l ++ (unmapped ∷ []))

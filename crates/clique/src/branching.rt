@@ -7,7 +7,6 @@ ghost use Rattle.clique.specs.LentRules.{lent_rules, choices_of};
 ghost use Rattle.clique.specs.Carried.{Small, Decided, incumbent_as, Becomes};
 
 use super::{MAX_OLD, candidates};
-use bitset::Least;
 use graph::MAX_ORDER;
 use mapping::{OldVertex, UNMAPPED};
 use problem::{Edges, Orders};
@@ -75,11 +74,11 @@ pub fn branch_choices<'a>(
 {
     let mut next = path;
     match bitset::least_member(candidates) {
-        Least::Empty => {
+        None => {
             next[depth] = UNMAPPED;
             branch_row(orders, allowed, edges, next, depth + 1, pairs, held)
         }
-        Least::Member(vertex) => {
+        Some(vertex) => {
             next[depth] = vertex as u8;
             let better = branch_row(orders, allowed, edges, next, depth + 1, pairs + 1, held);
             let rest = bitset::without_least(candidates);

@@ -9,7 +9,6 @@ ghost use Rattle.mapping.specs.Check.{EntriesBelow};
 ghost use Rattle.clique.specs.LentRules.{edge_fits, lent_candidate};
 
 use super::MAX_OLD;
-use bitset::Least;
 use graph::MAX_ORDER;
 use mapping::{NewVertex, OldVertex, UNMAPPED};
 use problem::Edges;
@@ -83,13 +82,13 @@ pub fn candidates<'a>(
     let mut fitting = 0;
     loop {
         match bitset::least_member(rest) {
-            Least::Member(v) => {
+            Some(v) => {
                 if edges_fit(edges, path, row, NewVertex(v)) {
                     fitting = bitset::with(fitting, v);
                 }
                 rest = bitset::without_least(rest);
             }
-            Least::Empty => {
+            None => {
                 return fitting;
             }
         }

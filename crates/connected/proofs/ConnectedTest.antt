@@ -7,8 +7,8 @@ use native.Mathlib.Omega.{arith}
 use lib.ListN.{length, get_or}
 use Rattle.bitset.specs.Members.{member}
 use Rattle.bitset.specs.Least.{least_member}
-use Rattle.bitset.specs.declared.Least.{Least}
-use Rattle.bitset.specs.declared.Least.TheVariants.{Member, Empty}
+use Rattle.std.specs.Prelude.{Option}
+use Rattle.std.specs.Prelude.{Some, None}
 use Rattle.bitset.proofs.SetOf.{member_set_of}
 use Rattle.bitset.proofs.LeastBelow.{least_below_member, least_below_empty}
 use Rattle.bounded.proofs.Tells.{Tells, tells_lt, tells_ne, tells_both}
@@ -44,7 +44,7 @@ module _ (g : Graph) (sound : Sound g) (l : List ℕ) (few : length l ≤ 64) wh
       )
 
   -- the least vertex of the set is mapped
-  least_mapped : (s : ℕ) → least_member (mapped_set l) ≡ Member s → Mapped l s
+  least_mapped : (s : ℕ) → least_member (mapped_set l) ≡ Some s → Mapped l s
   least_mapped s e = let least = least_below_member 64 (member (mapped_set l)) e in (in_set s least.below).0 least.passes
 
   -- Ways go on,
@@ -79,8 +79,8 @@ module _ (g : Graph) (sound : Sound g) (l : List ℕ) (few : length l ≤ 64) wh
   pub connected_test : Tells (is_connected g.edges l) (Connected g l)
   connected_test = go (least_member (mapped_set l)) refl
     where
-      go : (found : Least) → least_member (mapped_set l) ≡ found → Tells (is_connected g.edges l) (Connected g l)
-      go (Member s) e = (
+      go : (found : Option ℕ) → least_member (mapped_set l) ≡ found → Tells (is_connected g.edges l) (Connected g l)
+      go (Some s) e = (
         λ passed u v mu mv.
             let reaches = connected_set_reaches (neighbours g.edges) (mapped_set l) e passed (Way g l s) (way_passes s) here in
             then (back (reaches u (below mu) (inside mu))) (reaches v (below mv) (inside mv)),
@@ -88,7 +88,7 @@ module _ (g : Graph) (sound : Sound g) (l : List ℕ) (few : length l ≤ 64) wh
             reaches_connected_set (neighbours g.edges) (mapped_set l) e
             (λ W passes own v h m. along W passes (connected s v (least_mapped s e) ((in_set v h).0 m)) own),
       )
-      go Empty e = (
+      go None e = (
         λ passed u v mu mv. absurd (true≢false (sym (inside mu) ∙ least_below_empty 64 (member (mapped_set l)) e u (below mu))),
         λ connected. none_connected_set (neighbours g.edges) (mapped_set l) e,
       )

@@ -10,8 +10,8 @@ use borrow.Author.Tests.{eq-eqb, ne_eqb, eqb-true}
 use Rattle.bitset.specs.Members.{member, difference_of}
 use Rattle.bitset.specs.Count.{size}
 use Rattle.bitset.specs.Least.{least_member, without_least, IsLeast}
-use Rattle.bitset.specs.declared.Least.{Least}
-use Rattle.bitset.specs.declared.Least.TheVariants.{Member, Empty}
+use Rattle.std.specs.Prelude.{Option}
+use Rattle.std.specs.Prelude.{Some, None}
 use Rattle.bitset.proofs.Membership.{member_zero}
 use Rattle.bitset.proofs.SetOf.{set_of_lt, member_set_of, no_member}
 use Rattle.bitset.proofs.CountBelow.{count_below_zero}
@@ -38,10 +38,10 @@ module _ (near : ℕ → ℕ) (set : ℕ) (W : ℕ → Type 0) (passes : Passes 
   reached (suc k) front rest fs rs fw e v h m = go (reached k) (ℕ_discrete rest 0) (least_member front) refl
     where
       go : ((f r : ℕ) → Within f set → Within r set → All f W → spreads near k f r ≡ true → All r W)
-          → Dec (rest ≡ 0) → (l : Least) → least_member front ≡ l → W v
+          → Dec (rest ≡ 0) → (l : Option ℕ) → least_member front ≡ l → W v
       go again (yes q) l found = absurd (true≢false (sym m ∙ rw q (member_zero v)))
-      go again (no n) Empty found = absurd (true≢false (sym e ∙ spreads_stuck near (suc k) front rest n found))
-      go again (no n) (Member x) found = pick (member (near x) v) refl
+      go again (no n) None found = absurd (true≢false (sym e ∙ spreads_stuck near (suc k) front rest n found))
+      go again (no n) (Some x) found = pick (member (near x) v) refl
         where
           least : IsLeast 64 (member front) x
           least = least_below_member 64 (member front) found
@@ -69,7 +69,7 @@ module _ (near : ℕ → ℕ) (set s : ℕ) (below : s < 64) (reaches : Reaches 
   Settled front rest = (v u : ℕ) → v < 64 → u < 64 → member set v ≡ true → member front v ≡ false → member rest v ≡ false → member rest u ≡ true → member (near v) u ≡ false
 
   -- where the front is empty, nothing is left
-  nothing_left : (front rest : ℕ) → rest < 2 ^ 64 → Within rest set → member rest s ≡ false → Settled front rest → least_member front ≡ Empty → rest ≡ 0
+  nothing_left : (front rest : ℕ) → rest < 2 ^ 64 → Within rest set → member rest s ≡ false → Settled front rest → least_member front ≡ None → rest ≡ 0
   unfolding Settled
   nothing_left front rest word rs out settled e = (no_member 64 word).1 (λ v h. none v h (member rest v) refl)
     where
@@ -84,7 +84,7 @@ module _ (near : ℕ → ℕ) (set s : ℕ) (below : s < 64) (reaches : Reaches 
       none v h true q = reaches (λ u. member rest u ≡ false) passes out v h (rs v h q)
       none v h false q = q
 
-  settled_round : (front rest : ℕ) {x : ℕ} → least_member front ≡ Member x → Settled front rest → Settled (front_after near front rest x) (rest_after near rest x)
+  settled_round : (front rest : ℕ) {x : ℕ} → least_member front ≡ Some x → Settled front rest → Settled (front_after near front rest x) (rest_after near rest x)
   unfolding Settled
   settled_round front rest {x} found settled v u hv hu sv f r ru = go (ℕ_discrete v x)
     where
@@ -110,10 +110,10 @@ module _ (near : ℕ → ℕ) (set s : ℕ) (below : s < 64) (reaches : Reaches 
   all_reached (suc k) front rest word few rs out settled = go (all_reached k) (ℕ_discrete rest 0) (least_member front) refl
     where
       go : ((f r : ℕ) → r < 2 ^ 64 → size f + size r ≤ k → Within r set → member r s ≡ false → Settled f r → spreads near k f r ≡ true)
-          → Dec (rest ≡ 0) → (l : Least) → least_member front ≡ l → spreads near (suc k) front rest ≡ true
+          → Dec (rest ≡ 0) → (l : Option ℕ) → least_member front ≡ l → spreads near (suc k) front rest ≡ true
       go again (yes q) l found = spreads_done near (suc k) front rest q
-      go again (no n) Empty found = absurd (n (nothing_left front rest word rs out settled found))
-      go again (no n) (Member x) found =
+      go again (no n) None found = absurd (n (nothing_left front rest word rs out settled found))
+      go again (no n) (Some x) found =
           spreads_round near k front rest n found
           ∙ again (front_after near front rest x) (rest_after near rest x) (set_of_lt 64 _)
           (omega (arith, round_smaller near front rest found))
@@ -122,11 +122,11 @@ module _ (near : ℕ → ℕ) (set s : ℕ) (below : s < 64) (reaches : Reaches 
           (settled_round front rest found settled)
 
 -- A set with no vertex hangs together.
-pub none_connected_set : (near : ℕ → ℕ) (set : ℕ) → least_member set ≡ Empty → connected_set near set ≡ true
+pub none_connected_set : (near : ℕ → ℕ) (set : ℕ) → least_member set ≡ None → connected_set near set ≡ true
 unfolding connected_set
 none_connected_set near set e = spreads_done near 64 _ _ (rw e refl)
 
-module _ (near : ℕ → ℕ) (set : ℕ) {s : ℕ} (found : least_member set ≡ Member s) where
+module _ (near : ℕ → ℕ) (set : ℕ) {s : ℕ} (found : least_member set ≡ Some s) where
   least : IsLeast 64 (member set) s
   least = least_below_member 64 (member set) found
 

@@ -9,8 +9,8 @@ use borrow.Author.Tests.{eq-eqb, ne_eqb}
 use Rattle.bitset.specs.Members.{member, meet_of, union_of, difference_of}
 use Rattle.bitset.specs.Count.{size}
 use Rattle.bitset.specs.Least.{least_member, without_least}
-use Rattle.bitset.specs.declared.Least.{Least}
-use Rattle.bitset.specs.declared.Least.TheVariants.{Member, Empty}
+use Rattle.std.specs.Prelude.{Option}
+use Rattle.std.specs.Prelude.{Some, None}
 use Rattle.bitset.proofs.Membership.{member_zero}
 use Rattle.bitset.proofs.SetOf.{member_set_of}
 use Rattle.bitset.proofs.CountBelow.{count_below_le, size_union, size_part}
@@ -43,9 +43,9 @@ without_within set v h e = go (least_member set) refl
     kept true y q = absurd (false≢true q)
     kept false y q = q
 
-    go : (l : Least) → least_member set ≡ l → member set v ≡ true
-    go (Member m) found = kept (eqb v m) (member set v) (sym (member_without_least set m v found h) ∙ e)
-    go Empty found = absurd (false≢true (sym (rw found (member_zero v)) ∙ e))
+    go : (l : Option ℕ) → least_member set ≡ l → member set v ≡ true
+    go (Some m) found = kept (eqb v m) (member set v) (sym (member_without_least set m v found h) ∙ e)
+    go None found = absurd (false≢true (sym (rw found (member_zero v)) ∙ e))
 
 module _ (near : ℕ → ℕ) where
   -- An empty rest is reached.
@@ -55,19 +55,19 @@ module _ (near : ℕ → ℕ) where
   spreads_done (suc k) front rest e = rw (eq-eqb rest 0 e) refl
 
   -- An empty front reaches no other.
-  pub spreads_stuck : (k front rest : ℕ) → rest ≢ 0 → least_member front ≡ Empty → spreads near k front rest ≡ false
+  pub spreads_stuck : (k front rest : ℕ) → rest ≢ 0 → least_member front ≡ None → spreads near k front rest ≡ false
   unfolding spreads
   spreads_stuck zero front rest n e = ne_eqb rest 0 n
   spreads_stuck (suc k) front rest n e = rw (ne_eqb rest 0 n, e) refl
 
   -- A round takes the least vertex out of the front.
-  pub spreads_round : (k front rest : ℕ) {v : ℕ} → rest ≢ 0 → least_member front ≡ Member v
+  pub spreads_round : (k front rest : ℕ) {v : ℕ} → rest ≢ 0 → least_member front ≡ Some v
       → spreads near (suc k) front rest ≡ spreads near k (front_after near front rest v) (rest_after near rest v)
   unfolding spreads
   spreads_round k front rest n e = rw (ne_eqb rest 0 n, e) refl
 
   -- A round leaves fewer vertices in the front and in the rest.
-  pub round_smaller : (front rest : ℕ) {v : ℕ} → least_member front ≡ Member v
+  pub round_smaller : (front rest : ℕ) {v : ℕ} → least_member front ≡ Some v
       → size (front_after near front rest v) + size (rest_after near rest v) < size front + size rest
   round_smaller front rest {v} e =
       omega (arith, size_union (without_least front) (meet_of rest (near v)), size_part rest (meet_of rest (near v)) (meet_within rest (near v)), size_without_least front v e)
@@ -77,7 +77,7 @@ pub start_size : (set : ℕ) → size (difference_of set (without_least set)) + 
 start_size set = omega (arith, size_part set (without_least set) (without_within set), count_below_le 64 (member set))
 
 -- The front's vertices after a round,
-pub front_members : (near : ℕ → ℕ) (front rest : ℕ) {v : ℕ} → least_member front ≡ Member v → (u : ℕ) → u < 64
+pub front_members : (near : ℕ → ℕ) (front rest : ℕ) {v : ℕ} → least_member front ≡ Some v → (u : ℕ) → u < 64
     → member (front_after near front rest v) u ≡ ((not (eqb u v) && member front u) || (member rest u && member (near v) u))
 front_members near front rest {v} e u h =
     member_set_of 64 (λ i. member (without_least front) i || member (meet_of rest (near v)) i) u h
@@ -94,7 +94,7 @@ rest_members near rest v u h =
     go false y = refl
 
 -- A vertex of the front after a round was in the front, or is a neighbour out of the rest,
-pub front_from : (near : ℕ → ℕ) (front rest : ℕ) {v : ℕ} → least_member front ≡ Member v → (u : ℕ) → u < 64 → member (front_after near front rest v) u ≡ true
+pub front_from : (near : ℕ → ℕ) (front rest : ℕ) {v : ℕ} → least_member front ≡ Some v → (u : ℕ) → u < 64 → member (front_after near front rest v) u ≡ true
     → (member front u ≡ true) ⊎ ((member rest u ≡ true) × (member (near v) u ≡ true))
 front_from near front rest {v} e u h m = go (eqb u v) (member front u) (member rest u) (member (near v) u) (sym (front_members near front rest e u h) ∙ m)
   where
@@ -118,11 +118,11 @@ unfolding spreads
 spreads_congr near far same zero front rest = refl
 spreads_congr near far same (suc k) front rest = go (spreads_congr near far same k) (least_member front) refl
   where
-    go : ((f r : ℕ) → spreads near k f r ≡ spreads far k f r) → (l : Least) → least_member front ≡ l
+    go : ((f r : ℕ) → spreads near k f r ≡ spreads far k f r) → (l : Option ℕ) → least_member front ≡ l
         → spreads near (suc k) front rest ≡ spreads far (suc k) front rest
-    go again (Member v) e =
+    go again (Some v) e =
         rw (e, same v (least_below_member 64 (member front) e).below, again) refl
-    go again Empty e = rw e refl
+    go again None e = rw e refl
 
 pub connected_set_congr : (near far : ℕ → ℕ) → ((v : ℕ) → v < 64 → near v ≡ far v) → (set : ℕ) → connected_set near set ≡ connected_set far set
 unfolding connected_set

@@ -2,8 +2,8 @@
 use Rattle.std.specs.Prelude.{◌≡◌, Bool, false, not, ◌&&◌, ◌||◌, List, ℕ, zero, suc, ◌<◌, eqb, ltb, length, get_or}
 use Rattle.bitset.specs.Members.{set_of, meet_of, union_of, difference_of}
 use Rattle.bitset.specs.Least.{least_member, without_least}
-use Rattle.bitset.specs.declared.Least.{Least}
-use Rattle.bitset.specs.declared.Least.TheVariants.{Member, Empty}
+use Rattle.std.specs.Prelude.{Option}
+use Rattle.std.specs.Prelude.{Some, None}
 use Rattle.graph.specs.Graph.{place}
 use Rattle.mapping.specs.Common.{unmapped}
 
@@ -21,9 +21,9 @@ abbrev pub mapped_set : List ℕ → ℕ
 mapped_set l = set_of 64 (is_mapped l)
 
 -- false where none is found
-abbrev pub on_found : (ℕ → Bool) → Least → Bool
-on_found f (Member v) = f v
-on_found f Empty = false
+abbrev pub on_found : (ℕ → Bool) → Option ℕ → Bool
+on_found f (Some v) = f v
+on_found f None = false
 
 -- The front spreads over all of the rest, in at most k rounds: each takes a vertex out of the front, and its neighbours out of the rest into the front.
 unfoldable pub spreads : (ℕ → ℕ) → ℕ → ℕ → ℕ → Bool

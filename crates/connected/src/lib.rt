@@ -6,7 +6,6 @@ ghost use Rattle.std.specs.Prelude.{◌≡◌, ◌<◌, get_or};
 ghost use Rattle.connected.specs.Spreading.{adjacent as adjacent_in, neighbours as neighbours_in, Neighbours, is_mapped, mapped_set};
 ghost use Rattle.connected.specs.Spreading.{connected_set, is_connected};
 
-use bitset::Least;
 use graph::MAX_ORDER;
 use mapping::{OldVertex, UNMAPPED};
 
@@ -84,12 +83,12 @@ pub fn is_connected_set(neighbours: &[u64; MAX_ORDER], set: u64) -> bool
             return true;
         }
         match bitset::least_member(front) {
-            Least::Member(v) => {
+            Some(v) => {
                 let met = bitset::meet(rest, neighbours[v]);
                 front = bitset::union(bitset::without_least(front), met);
                 rest = bitset::difference(rest, met);
             }
-            Least::Empty => {
+            None => {
                 return false;
             }
         }

@@ -10,7 +10,7 @@ use native.Mathlib.Omega.{arith}
 use lib.ListN.{length, take, set}
 use lib.Seq.{take-take}
 use Rattle.bitset.specs.Least.{least_member}
-use Rattle.bitset.specs.declared.Least.TheVariants.{Member, Empty}
+use Rattle.std.specs.Prelude.{Some, None}
 use Rattle.bitset.proofs.LeastBelow.{least_below_member}
 use Rattle.problem.specs.Problem.{Problem, SoundProblem}
 use Rattle.mapping.specs.Common.{unmapped}
@@ -51,7 +51,7 @@ module _ {P : Problem} (sound : SoundProblem P) {path ws : List ℕ} {depth pair
       rw (moved_stored node.path_length inner64 moved) at whole
 
   -- The least member of the row's word is stored: the first child takes it.
-  pub child_taken : {v last later : ℕ} {path' : List ℕ} → least_member (level_word ws pairs depth) ≡ Member v → Moved path (depth + 1) (v % 256) path'
+  pub child_taken : {v last later : ℕ} {path' : List ℕ} → least_member (level_word ws pairs depth) ≡ Some v → Moved path (depth + 1) (v % 256) path'
       → Descends P path depth ws (record { depth = depth + 1; pairs = pairs + 1; finished = false; last = last; later = later }) path'
   child_taken {v} e moved =
       let small = (least_below_member 64 _ e).below in
@@ -61,7 +61,7 @@ module _ {P : Problem} (sound : SoundProblem P) {path ws : List ℕ} {depth pair
       descends (inr first.is_candidate) (omega arith) first.children_are (rw stored at moved)
 
   -- The row's word is empty: the first child leaves the row out.
-  pub child_left_out : {last later : ℕ} {path' : List ℕ} → least_member (level_word ws pairs depth) ≡ Empty → Moved path (depth + 1) unmapped path'
+  pub child_left_out : {last later : ℕ} {path' : List ℕ} → least_member (level_word ws pairs depth) ≡ None → Moved path (depth + 1) unmapped path'
       → Descends P path depth ws (record { depth = depth + 1; pairs = pairs; finished = false; last = last; later = later }) path'
   child_left_out e moved =
       let first = only_left_out P sound (omega (arith, node_length sound node)) own_words (rw (node_length sound node, ← node.pairs_are) e) in

@@ -8,7 +8,7 @@ use native.Mathlib.Omega.{arith}
 use lib.ListN.{length, get_or, take, set}
 use Rattle.bitset.specs.Members.{member}
 use Rattle.bitset.specs.Least.{least_member}
-use Rattle.bitset.specs.declared.Least.TheVariants.{Member, Empty}
+use Rattle.std.specs.Prelude.{Some, None}
 use Rattle.bitset.proofs.Membership.{member_zero}
 use Rattle.bitset.proofs.SetOf.{no_member}
 use Rattle.bitset.proofs.LeastBelow.{least_below_member, least_below_empty}
@@ -118,9 +118,9 @@ module _ {path trail ws : List ℕ} {depth pairs : ℕ} (long : length path ≡ 
   trail_down_out moved = trail_left_out (moved_last long inner moved) (own_front moved)
 
 -- A set that has a least member is not empty,
-pub full_word : {w v : ℕ} → least_member w ≡ Member v → w ≢ 0
+pub full_word : {w v : ℕ} → least_member w ≡ Some v → w ≢ 0
 full_word {w} {v} e z = true≢false (sym (least_below_member 64 (member w) e).passes ∙ rw z (member_zero v))
 
 -- and one that has none is.
-pub empty_word : {w : ℕ} → w < 2 ^ 64 → least_member w ≡ Empty → w ≡ 0
+pub empty_word : {w : ℕ} → w < 2 ^ 64 → least_member w ≡ None → w ≡ 0
 empty_word {w} small e = (no_member 64 small).1 (λ i h. least_below_empty 64 (member w) e i h)

@@ -14,7 +14,7 @@ use borrow.Author.Tests.{eq-eqb, ne_eqb}
 use Rattle.bitset.specs.Members.{member, insert}
 use Rattle.bitset.specs.Count.{count_below, size}
 use Rattle.bitset.specs.Least.{least_member, without_least}
-use Rattle.bitset.specs.declared.Least.TheVariants.{Member, Empty}
+use Rattle.std.specs.Prelude.{Some, None}
 use Rattle.bitset.proofs.SetOf.{member_set_of}
 use Rattle.bitset.proofs.CountBelow.{count_below_congr, count_below_zero, count_below_one, count_below_mono}
 use Rattle.bitset.proofs.LeastBelow.{least_below_member, least_below_empty}
@@ -58,7 +58,7 @@ module _ {s : ℕ} {word : ℕ → ℕ} {level : ℕ} {ws : List ℕ} {rows₀ l
           go true = refl
           go false = refl
 
-  module _ {ws' : List ℕ} {rest rows left m : ℕ} (t : MetTo s word level ws rows₀ left₀ ws' rest rows left) (found : least_member rest ≡ Member m) where
+  module _ {ws' : List ℕ} {rest rows left m : ℕ} (t : MetTo s word level ws rows₀ left₀ ws' rest rows left) (found : least_member rest ≡ Some m) where
     -- The least row left is one of the set.
     pub next_row : (m < 64) × (member s m ≡ true)
     next_row =
@@ -194,7 +194,7 @@ module _ {s : ℕ} {word : ℕ → ℕ} {level need : ℕ} {ws ws' : List ℕ} {
           weaker false b d e = e
 
   -- and where none is left.
-  pub met_all : least_member rest ≡ Empty → Met s word level need ws kept ws' r
+  pub met_all : least_member rest ≡ None → Met s word level need ws kept ws' r
   met_all none = record {
     words = t.words;
     others = t.others;

@@ -11,7 +11,7 @@ use native.Mathlib.Omega.{arith}
 use lib.ListN.{length, get_or, take, drop, set, take-append-drop}
 use lib.Seq.{length-take-le, take-take, get_or-take}
 use Rattle.bitset.specs.Least.{least_above}
-use Rattle.bitset.specs.declared.Least.TheVariants.{Member, Empty}
+use Rattle.std.specs.Prelude.{Some, None}
 use Rattle.bitset.proofs.LeastBelow.{least_above_member}
 use Rattle.problem.specs.Problem.{Problem, SoundProblem}
 use Rattle.mapping.specs.Common.{unmapped, size}
@@ -139,12 +139,12 @@ module _ {P : Problem} (sound : SoundProblem P) {path ws : List ℕ} {depth pair
         rw (moved_stored node.path_length inner64 moved) at whole
 
     -- The least member above the row's value is stored: the sibling takes it.
-    pub sibling_taken : {v last later : ℕ} {path' : List ℕ} → least_above (level_word ws (pairs - 1) row) (get_or path row 0) ≡ Member v → Moved path (row + 1) (v % 256) path'
+    pub sibling_taken : {v last later : ℕ} {path' : List ℕ} → least_above (level_word ws (pairs - 1) row) (get_or path row 0) ≡ Some v → Moved path (row + 1) (v % 256) path'
         → Retreats P path depth ws (record { depth = row + 1; pairs = pairs; finished = false; last = last; later = later }) path'
     sibling_taken {v} e moved =
         let before = pairs_before passed refl row_inside mapped in
         let level : pairs - 1 ≡ size (take row path) = omega arith in
-        let found : least_above (level_word ws (size (take row path)) row) (get_or path row 0) ≡ Member v = rw level at e in
+        let found : least_above (level_word ws (size (take row path)) row) (get_or path row 0) ≡ Some v = rw level at e in
         let small = (least_above_member _ _ e).below in
         let stored : v % 256 ≡ v = omega arith in
         let one = counted_mapped v (λ u. omega arith) in
@@ -153,10 +153,10 @@ module _ {P : Problem} (sound : SoundProblem P) {path ws : List ℕ} {depth pair
         (siblings_taken P sound (omega (arith, row_inside)) row_inner row_words found) (rw stored at moved)
 
     -- No member is above the row's value: the sibling leaves the row out.
-    pub sibling_left_out : {last later : ℕ} {path' : List ℕ} → least_above (level_word ws (pairs - 1) row) (get_or path row 0) ≡ Empty → Moved path (row + 1) unmapped path'
+    pub sibling_left_out : {last later : ℕ} {path' : List ℕ} → least_above (level_word ws (pairs - 1) row) (get_or path row 0) ≡ None → Moved path (row + 1) unmapped path'
         → Retreats P path depth ws (record { depth = row + 1; pairs = pairs - 1; finished = false; last = last; later = later }) path'
     sibling_left_out e moved =
         let before = pairs_before passed refl row_inside mapped in
         let level : pairs - 1 ≡ size (take row path) = omega arith in
-        let found : least_above (level_word ws (size (take row path)) row) (get_or path row 0) ≡ Empty = rw level at e in
+        let found : least_above (level_word ws (size (take row path)) row) (get_or path row 0) ≡ None = rw level at e in
         retreats (inl refl) (omega arith) (siblings_last P sound (omega (arith, row_inside)) row_inner row_words row_value found) moved

@@ -7,8 +7,8 @@ use native.Mathlib.Omega.{arith}
 use lib.ListN.{length, take}
 use borrow.Author.Tests.{lt-ltb}
 use Rattle.bitset.specs.Least.{least_above}
-use Rattle.bitset.specs.declared.Least.{Least}
-use Rattle.bitset.specs.declared.Least.TheVariants.{Member, Empty}
+use Rattle.std.specs.Prelude.{Option}
+use Rattle.std.specs.Prelude.{Some, None}
 use Rattle.bitset.proofs.LeastBelow.{least_above_member}
 use Rattle.problem.specs.Problem.{Problem}
 use Rattle.mapping.specs.Common.{unmapped, size}
@@ -51,7 +51,7 @@ module _ {edges masks ws : List ℕ} {row pairs : ℕ} where
     taken_is v h = rw (at.pairs_are, ← setting.edges_is) (taken_bound P setting.sound inside at.words few setting.masks_are v h)
 
     -- a member of the code's word is one of the problem's
-    word_is : (last : ℕ) {l : Least} → least_above (level_word ws pairs row) last ≡ l → least_above (level_word ws (size (take row path)) row) last ≡ l
+    word_is : (last : ℕ) {l : Option ℕ} → least_above (level_word ws pairs row) last ≡ l → least_above (level_word ws (size (take row path)) row) last ≡ l
     word_is last e = rw at.pairs_are at e
 
   -- The maximum starts with the bound of the row left out.
@@ -65,7 +65,7 @@ module _ {edges masks ws : List ℕ} {row pairs : ℕ} where
 
   -- The least member of the word above the last value counts its own bound.
   pub row_more : {value top last v above : ℕ} → RowHead edges masks ws row pairs value top last
-      → least_above (level_word ws pairs row) last ≡ Member v
+      → least_above (level_word ws pairs row) last ≡ Some v
       → above ≡ max top (pairs + 2 + meet_rows edges masks row pairs v ws) → RowHead edges masks ws row pairs value above v
   row_more {value} {top} {last} {v} {above} head e a = record {
     small = (least_above_member (level_word ws pairs row) last e).below;
@@ -81,7 +81,7 @@ module _ {edges masks ws : List ℕ} {row pairs : ℕ} where
 
   -- With no member above the last value, the maximum is that of the level.
   pub row_all : {value top last : ℕ} → RowHead edges masks ws row pairs value top last
-      → least_above (level_word ws pairs row) last ≡ Empty
+      → least_above (level_word ws pairs row) last ≡ None
       → (P : Problem) (path : List ℕ) → Setting P P.old.order edges masks → AtRow P path row pairs ws
       → top ≡ level_top (rules_of P) (take row path) value
   row_all {value} {top} {last} head e P path setting at =

@@ -9,7 +9,7 @@ use lib.ListN.{length, get_or, take}
 use lib.Seq.{length-take-le}
 use borrow.Author.Tests.{lt-leb}
 use Rattle.bitset.specs.Least.{least_above}
-use Rattle.bitset.specs.declared.Least.TheVariants.{Member, Empty}
+use Rattle.std.specs.Prelude.{Some, None}
 use Rattle.problem.specs.Problem.{Problem, SoundProblem}
 use Rattle.mapping.specs.Common.{unmapped, size}
 use Rattle.search_tree.specs.Rules.{Rules, rules_of}
@@ -76,7 +76,7 @@ module _ (P : Problem) (sound : SoundProblem P) where
 
   module _ {path ws : List ℕ} {k : ℕ} (inside : k ≤ length path) (row : k < P.old.order) (words : Words P path k ws) where
     -- After w comes the least member v above it: its bound counts beside those after v.
-    pub top_bound_next : (w : ℕ) {v : ℕ} → least_above (level_word ws (size (take k path)) k) w ≡ Member v
+    pub top_bound_next : (w : ℕ) {v : ℕ} → least_above (level_word ws (size (take k path)) k) w ≡ Some v
         → top_bound (rules_of P) (map (extend (take k path)) (choices_after (rules_of P) (take k path) w))
         ≡ max (1 + upper_bound (rules_of P) (extend (take k path) v))
         (top_bound (rules_of P) (map (extend (take k path)) (choices_after (rules_of P) (take k path) v)))
@@ -84,7 +84,7 @@ module _ (P : Problem) (sound : SoundProblem P) where
     top_bound_next w {v} e = rw (next_taken P sound inside row words w e).after_are
 
     -- Where no member is above w, the bound with the row left out is the last.
-    pub top_bound_last : (w : ℕ) → w < unmapped → least_above (level_word ws (size (take k path)) k) w ≡ Empty
+    pub top_bound_last : (w : ℕ) → w < unmapped → least_above (level_word ws (size (take k path)) k) w ≡ None
         → top_bound (rules_of P) (map (extend (take k path)) (choices_after (rules_of P) (take k path) w))
         ≡ 1 + upper_bound (rules_of P) (extend (take k path) unmapped)
     unfolding top_bound

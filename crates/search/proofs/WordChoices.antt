@@ -11,7 +11,7 @@ use lib.Seq.{length-take-le, take-length}
 use borrow.Author.Tests.{ltb-true, lt-ltb, le-ltb, lt-leb}
 use Rattle.bitset.specs.Members.{member}
 use Rattle.bitset.specs.Least.{least_member, least_above}
-use Rattle.bitset.specs.declared.Least.TheVariants.{Member, Empty}
+use Rattle.std.specs.Prelude.{Some, None}
 use Rattle.bitset.proofs.LeastBelow.{least_below_member, least_below_empty, least_above_member, least_above_empty}
 use Rattle.problem.specs.Problem.{Problem, SoundProblem}
 use Rattle.mapping.specs.Common.{unmapped, size}
@@ -101,7 +101,7 @@ module _ (P : Problem) (sound : SoundProblem P) where
     own_member v = rw take-length at (row_member P sound inner words v)
 
     -- The least member of the next row's word is the first choice.
-    pub first_taken : {v : ℕ} → least_member (level_word ws (size path) (length path)) ≡ Member v → FirstTaken P path v
+    pub first_taken : {v : ℕ} → least_member (level_word ws (size path) (length path)) ≡ Some v → FirstTaken P path v
     first_taken {v} e =
         let least = least_below_member 64 _ e in
         let c : candidate (rules_of P) path (length path) v ≡ true = sym (own_member v) ∙ least.passes in
@@ -114,7 +114,7 @@ module _ (P : Problem) (sound : SoundProblem P) where
         }
 
     -- An empty word of the next row leaves 255 alone.
-    pub only_left_out : least_member (level_word ws (size path) (length path)) ≡ Empty → OnlyLeftOut P path
+    pub only_left_out : least_member (level_word ws (size path) (length path)) ≡ None → OnlyLeftOut P path
     only_left_out e =
         let small = sound.new_sound.order_max in
         let all = choices_none (rules_of P) few path (λ i h. sym (own_member i) ∙ least_below_empty 64 _ e i (omega arith)) in
@@ -134,7 +134,7 @@ module _ (P : Problem) (sound : SoundProblem P) where
     depth = length-take-le k path inside
 
     -- The least member above w of row k's word is the choice after w.
-    pub next_taken : (w : ℕ) {v : ℕ} → least_above (level_word ws (size (take k path)) k) w ≡ Member v → NextTaken P (take k path) k w v
+    pub next_taken : (w : ℕ) {v : ℕ} → least_above (level_word ws (size (take k path)) k) w ≡ Some v → NextTaken P (take k path) k w v
     next_taken w {v} e =
         let q = take k path in
         let word = level_word ws (size q) k in
@@ -146,7 +146,7 @@ module _ (P : Problem) (sound : SoundProblem P) where
         record { above = least.above; is_candidate = c; value = candidate_value (rules_of P) q k v c; after_are = next }
 
     -- Where no member of row k's word is above w, 255 is the choice after w, and the last.
-    pub next_left_out : (w : ℕ) → w < unmapped → least_above (level_word ws (size (take k path)) k) w ≡ Empty
+    pub next_left_out : (w : ℕ) → w < unmapped → least_above (level_word ws (size (take k path)) k) w ≡ None
         → choices_after (rules_of P) (take k path) w ≡ unmapped ∷ []
     next_left_out w h e =
         let word = level_word ws (size (take k path)) k in
@@ -155,14 +155,14 @@ module _ (P : Problem) (sound : SoundProblem P) where
         (λ i l b. rw depth (sym (row_member P sound row words i) ∙ least_above_empty word w e i l (omega arith)))
 
     -- The nearest later sibling takes the least member above the entry.
-    pub siblings_taken : {v : ℕ} → least_above (level_word ws (size (take k path)) k) (get_or path k 0) ≡ Member v
+    pub siblings_taken : {v : ℕ} → least_above (level_word ws (size (take k path)) k) (get_or path k 0) ≡ Some v
         → later_siblings (rules_of P) path (k + 1)
         ≡ extend (take k path) v ∷ (map (extend (take k path)) (choices_after (rules_of P) (take k path) v) ++ later_siblings (rules_of P) path k)
     unfolding later_siblings
     siblings_taken e = rw (add-one, (next_taken (get_or path k 0) e).after_are)
 
     -- Where no member is above the entry, the nearest later sibling leaves the row out.
-    pub siblings_last : get_or path k 0 < unmapped → least_above (level_word ws (size (take k path)) k) (get_or path k 0) ≡ Empty
+    pub siblings_last : get_or path k 0 < unmapped → least_above (level_word ws (size (take k path)) k) (get_or path k 0) ≡ None
         → later_siblings (rules_of P) path (k + 1) ≡ extend (take k path) unmapped ∷ later_siblings (rules_of P) path k
     unfolding later_siblings
     siblings_last h e = rw (add-one, next_left_out (get_or path k 0) h e)

@@ -11,7 +11,6 @@ ghost use Rattle.search.specs.Words.{SameLevels, Covers};
 
 use super::walk::Walk;
 use super::words;
-use bitset::Least;
 use graph::MAX_ORDER;
 use mapping::{NewVertex, OldVertex, UNMAPPED};
 
@@ -38,7 +37,7 @@ pub fn row_top(
     let mut last = value.0;
     loop {
         match bitset::least_above(word, last) {
-            Least::Member(v) => {
+            Some(v) => {
                 let above = pairs
                     + 2
                     + words::refine(
@@ -57,7 +56,7 @@ pub fn row_top(
                 }
                 last = v;
             }
-            Least::Empty => {
+            None => {
                 return top;
             }
         }

@@ -16,7 +16,6 @@ ghost use Rattle.search.specs.Walking.{RestZero, Moved, Numbers, Trail, OpenIs, 
 ghost use Rattle.search.specs.Call.{visits};
 
 use super::words;
-use bitset::Least;
 use checkpoint::Checkpoint;
 use graph::MAX_ORDER;
 use mapping::{NewVertex, OldVertex, UNMAPPED};
@@ -158,7 +157,7 @@ pub fn descend(
     ensures last { LastIs path.new result.depth result.last }
 {
     match bitset::least_member(words::level_word(workspace, pairs, OldVertex(depth))) {
-        Least::Member(v) => {
+        Some(v) => {
             let later = rows - 1;
             trail[pairs] = LATER * later + MAX_ORDER * depth + v;
             let value = (v % 256) as u8;
@@ -171,7 +170,7 @@ pub fn descend(
                 later,
             }
         }
-        Least::Empty => {
+        None => {
             move_down(numbers, path, ((depth + 1) % 256) as u8, UNMAPPED);
             Place {
                 depth: depth + 1,
@@ -221,7 +220,7 @@ pub fn retreat(
         words::level_word(workspace, before, OldVertex(row)),
         pair % MAX_ORDER,
     ) {
-        Least::Member(v) => {
+        Some(v) => {
             trail[before] = LATER * later + MAX_ORDER * row + v;
             let value = (v % 256) as u8;
             move_back(numbers, path, ((row + 1) % 256) as u8, value);
@@ -233,7 +232,7 @@ pub fn retreat(
                 later,
             }
         }
-        Least::Empty => {
+        None => {
             move_back(numbers, path, ((row + 1) % 256) as u8, UNMAPPED);
             Place {
                 depth: row + 1,

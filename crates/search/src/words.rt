@@ -9,7 +9,6 @@ ghost use Rattle.search.specs.Words.{Masks, MaskRow, RootWords, level_word, Coun
 ghost use Rattle.search.specs.Words.{Covers, First, Met, near_word, far_word};
 
 use super::WORDS;
-use bitset::Least;
 use graph::MAX_ORDER;
 use mapping::{NewVertex, OldVertex};
 
@@ -150,7 +149,7 @@ pub fn meet_near(
     let mut left = kept.count;
     loop {
         match bitset::least_member(rest) {
-            Least::Member(r) => {
+            Some(r) => {
                 let label = edges[MAX_ORDER * from + r] as usize;
                 let at = MAX_ORDER * pairs + r;
                 let word = bitset::meet(workspace[at], masks[EDGE_LABELS * value.0 + label]);
@@ -163,7 +162,7 @@ pub fn meet_near(
                     rows = bitset::with(rows, r);
                 }
             }
-            Least::Empty => {
+            None => {
                 return Kept { rows, count: left };
             }
         }
@@ -187,7 +186,7 @@ pub fn meet_far(
     let mut left = kept.count;
     loop {
         match bitset::least_member(rest) {
-            Least::Member(r) => {
+            Some(r) => {
                 let at = MAX_ORDER * pairs + r;
                 let word = bitset::meet(workspace[at], mask);
                 if bitset::is_empty(word) {
@@ -201,7 +200,7 @@ pub fn meet_far(
                 }
                 rest = bitset::without_least(rest);
             }
-            Least::Empty => {
+            None => {
                 return Kept { rows, count: left };
             }
         }

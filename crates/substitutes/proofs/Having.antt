@@ -10,8 +10,8 @@ use lib.ListN.{length, get_or}
 use borrow.Author.Tests.{lt-ltb, eqb-true, eq-eqb, ne_eqb}
 use Rattle.bitset.specs.Members.{member, meet_of}
 use Rattle.bitset.specs.Least.{least_member}
-use Rattle.bitset.specs.declared.Least.{Least}
-use Rattle.bitset.specs.declared.Least.TheVariants.{Member, Empty}
+use Rattle.std.specs.Prelude.{Option}
+use Rattle.std.specs.Prelude.{Some, None}
 use Rattle.bitset.proofs.SetOf.{set_of_congr, member_set_of, meet_of_set_of}
 use Rattle.bitset.proofs.LeastBelow.{least_below_member, least_below_empty}
 use Rattle.substitutes.specs.Agreeing.{places_where, Places, having, place_of, first_having}
@@ -20,9 +20,9 @@ use Rattle.substitutes.specs.Agreeing.{places_where, Places, having, place_of, f
 pub first_below : (low high : List ℕ) (a : ℕ) → first_having low high a < 65
 first_below low high a = go (least_member (having low high a)) refl
   where
-    go : (l : Least) → least_member (having low high a) ≡ l → place_of l < 65
-    go (Member v) e = omega (arith, (least_below_member 64 (member (having low high a)) e).below)
-    go Empty e = omega arith
+    go : (l : Option ℕ) → least_member (having low high a) ≡ l → place_of l < 65
+    go (Some v) e = omega (arith, (least_below_member 64 (member (having low high a)) e).below)
+    go None e = omega arith
 
 -- Labels are equal where both their bytes are.
 bytes_equal : (a b : ℕ) → a < 65536 → b < 65536 → (eqb (a % 256) (b / 1 % 256) && eqb (a / 256) (b / 256 % 256)) ≡ eqb a b
@@ -53,19 +53,19 @@ module _ {labels low high : List ℕ} (l : Places labels 1 low) (h : Places labe
   first_has : (a : ℕ) → a < 65536 → first_having low high a < 64 → a ≡ get_or labels (first_having low high a) 0
   first_has a s = go (least_member (having low high a)) refl
     where
-      go : (f : Least) → least_member (having low high a) ≡ f → place_of f < 64 → a ≡ get_or labels (place_of f) 0
-      go (Member v) e b =
+      go : (f : Option ℕ) → least_member (having low high a) ≡ f → place_of f < 64 → a ≡ get_or labels (place_of f) 0
+      go (Some v) e b =
           let passes = (least_below_member 64 (member (having low high a)) e).passes in
           eqb-true a (get_or labels v 0) ((and-eq-true_iff (ltb v (length labels)) (eqb a (get_or labels v 0))).0 (sym (member_having a v s b) ∙ passes)).1
-      go Empty e b = absurd (omega arith)
+      go None e b = absurd (omega arith)
 
   -- and the label of a place has a first place.
   has_first : (v : ℕ) → v < 64 → v < length labels → first_having low high (get_or labels v 0) < 64
   has_first v b inside = go (least_member (having low high (get_or labels v 0))) refl
     where
-      go : (f : Least) → least_member (having low high (get_or labels v 0)) ≡ f → place_of f < 64
-      go (Member w) e = (least_below_member 64 (member (having low high (get_or labels v 0))) e).below
-      go Empty e =
+      go : (f : Option ℕ) → least_member (having low high (get_or labels v 0)) ≡ f → place_of f < 64
+      go (Some w) e = (least_below_member 64 (member (having low high (get_or labels v 0))) e).below
+      go None e =
           absurd
           (true≢false
           (rw (lt-ltb v (length labels) inside, eq-eqb (get_or labels v 0) (get_or labels v 0) refl) at (sym (member_having (get_or labels v 0) v (small v) b))

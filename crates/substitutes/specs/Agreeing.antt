@@ -4,8 +4,8 @@ use Rattle.std.specs.Prelude.{◌≡◌, Bool, cond, ◌&&◌, List, ℕ, ◌/�
 use Rattle.bounded.specs.Below.{some_below}
 use Rattle.bitset.specs.Members.{member, set_of, meet_of, union_of}
 use Rattle.bitset.specs.Least.{least_member}
-use Rattle.bitset.specs.declared.Least.{Least}
-use Rattle.bitset.specs.declared.Least.TheVariants.{Member, Empty}
+use Rattle.std.specs.Prelude.{Option}
+use Rattle.std.specs.Prelude.{Some, None}
 use Rattle.substitutes.specs.Substitutes.{pairs, old_label, new_label, agree}
 
 -- the places below 64 of these labels whose label passes a test
@@ -22,9 +22,9 @@ abbrev pub having : List ℕ → List ℕ → ℕ → ℕ
 having low high a = meet_of (get_or low (a % 256) 0) (get_or high (a / 256) 0)
 
 -- 64 stands for no place
-abbrev pub place_of : Least → ℕ
-place_of (Member v) = v
-place_of Empty = 64
+abbrev pub place_of : Option ℕ → ℕ
+place_of (Some v) = v
+place_of None = 64
 
 -- the first place that has label a
 abbrev pub first_having : List ℕ → List ℕ → ℕ → ℕ

@@ -3,7 +3,6 @@
 ghost use Rattle.std.specs.Prelude.{◌≡◌, ◌≤◌, ◌<◌};
 ghost use Rattle.substitutes.specs.Agreeing.{Places, having, first_having, Equal, Joined, Spread};
 
-use bitset::Least;
 use graph::{Label, MAX_ORDER};
 
 // How many values a byte has.
@@ -39,8 +38,8 @@ pub fn first_having(low: &[u64; BYTES], high: &[u64; BYTES], label: Label) -> us
     ensures { (result ≡ first_having low.now high.now label) × (result < 65) }
 {
     match bitset::least_member(having(low, high, label)) {
-        Least::Member(place) => place,
-        Least::Empty => MAX_ORDER,
+        Some(place) => place,
+        None => MAX_ORDER,
     }
 }
 

@@ -7,13 +7,13 @@ use borrow.Author.Tests.{eqb-true, eqb-false}
 use Rattle.bitset.specs.Members.{member, meet_of, union_of, difference_of}
 use Rattle.bitset.specs.Count.{size}
 use Rattle.bitset.specs.Least.{least_member, without_least}
-use Rattle.bitset.specs.declared.Least.TheVariants.{Member}
+use Rattle.std.specs.Prelude.{Some}
 use Rattle.bitset.proofs.LeastBelow.{least_below_member}
 use Rattle.connected.specs.Spreading.{connected_set, spreads}
 use Rattle.connected.proofs.Spread.{front_after, rest_after, start_size, spreads_done, spreads_stuck, spreads_round, round_smaller}
 use Rattle.connected.proofs.is_connected_set.Invariants.{SpreadsOn}
 use Rattle.connected.proofs.is_connected_set.Goals as goal
-use Rattle.connected.proofs.is_connected_set.Goals.{After-difference-rest, In-Member}
+use Rattle.connected.proofs.is_connected_set.Goals.{After-difference-rest, In-Some}
 
 module _ (near : ℕ → ℕ) (set : ℕ) where
   -- it is so at the start,
@@ -21,7 +21,7 @@ module _ (near : ℕ → ℕ) (set : ℕ) where
   unfolding connected_set
   started = record { rounds = 64; enough = start_size set; same = refl }
 
-  module _ (rest front : ℕ) {v rest' front' : ℕ} (found : least_member front ≡ Member v)
+  module _ (rest front : ℕ) {v rest' front' : ℕ} (found : least_member front ≡ Some v)
       (rest_is : rest' ≡ rest_after near rest v) (front_is : front' ≡ front_after near front rest v) where
     -- a round leaves fewer,
     fewer : size front' + size rest' < size front + size rest
@@ -51,15 +51,15 @@ returns-then-is_empty c =
     sym (spreads_done _ l.invariant.rounds l.front l.rest none) ∙ l.invariant.same
 
 -- the vertex that was found
-found : (c : In-Member) → least_member c.loop-set.front ≡ Member c.in-Member.v
-found c = sym c.least_member.ensures ∙ c.in-Member.is
+found : (c : In-Some) → least_member c.loop-set.front ≡ Some c.in-Some.v
+found c = sym c.least_member.ensures ∙ c.in-Some.is
 
 -- it is below 64
-inside : (c : In-Member) → c.in-Member.v < 64
+inside : (c : In-Some) → c.in-Some.v < 64
 inside c = (least_below_member 64 (member c.loop-set.front) (found c)).below
 
 -- the rest is not empty
-some : (c : In-Member) → c.loop-set.rest ≢ 0
+some : (c : In-Some) → c.loop-set.rest ≢ 0
 some c =
     eqb-false c.loop-set.rest 0 (sym c.is_empty.ensures ∙ c.if-is_empty.false)
 
@@ -67,7 +67,7 @@ pub offset_bounds-neighbours-v : goal.offset_bounds-neighbours-v
 offset_bounds-neighbours-v c = omega (arith, inside c)
 
 pub bounds-neighbours-v : goal.bounds-neighbours-v
-bounds-neighbours-v c = inside (goal.at.bounds-neighbours-v c).In-Member
+bounds-neighbours-v c = inside (goal.at.bounds-neighbours-v c).In-Some
 
 abbrev near : After-difference-rest → ℕ → ℕ
 near c v = get_or c.args.neighbours.now v 0
@@ -76,7 +76,7 @@ abbrev set : After-difference-rest → ℕ
 set c = c.args.set
 
 abbrev vertex : After-difference-rest → ℕ
-vertex c = c.in-Member.v
+vertex c = c.in-Some.v
 
 -- what the round leaves is what `spreads` goes on with
 met_is : (c : After-difference-rest)
@@ -94,14 +94,14 @@ rest_is : (c : After-difference-rest)
 rest_is c = c.difference-rest.ensures ∙ ap (difference_of c.loop-set.rest) (met_is c)
 
 pub loop-set-smaller : goal.loop-set-smaller
-loop-set-smaller c = fewer (near c) (set c) _ _ (found (goal.at.loop-set-smaller c).In-Member) (rest_is c) (front_is c)
+loop-set-smaller c = fewer (near c) (set c) _ _ (found (goal.at.loop-set-smaller c).In-Some) (rest_is c) (front_is c)
 
 pub loop-set-preserved : goal.loop-set-preserved
-loop-set-preserved c = goes_on (near c) (set c) _ _ (found (goal.at.loop-set-preserved c).In-Member) (rest_is c) (front_is c) c.loop-set.invariant (some (goal.at.loop-set-preserved c).In-Member)
+loop-set-preserved c = goes_on (near c) (set c) _ _ (found (goal.at.loop-set-preserved c).In-Some) (rest_is c) (front_is c) c.loop-set.invariant (some (goal.at.loop-set-preserved c).In-Some)
 
-pub returns-in-Empty : goal.returns-in-Empty
-returns-in-Empty c =
+pub returns-in-None : goal.returns-in-None
+returns-in-None c =
     let l = c.loop-set in
     let left = eqb-false l.rest 0 (sym c.is_empty.ensures ∙ c.if-is_empty.false) in
-    let none = sym c.least_member.ensures ∙ c.in-Empty.is in
+    let none = sym c.least_member.ensures ∙ c.in-None.is in
     sym (spreads_stuck _ l.invariant.rounds l.front l.rest left none) ∙ l.invariant.same

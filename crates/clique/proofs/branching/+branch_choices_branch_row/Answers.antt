@@ -5,7 +5,7 @@ use native.Mathlib.Omega.{arith}
 use Rattle.bitset.specs.Count.{size}
 use Rattle.bitset.specs.Members.{member}
 use Rattle.bitset.specs.Least.{least_member}
-use Rattle.bitset.specs.declared.Least.TheVariants.{Member}
+use Rattle.std.specs.Prelude.{Some}
 use Rattle.bitset.proofs.CountBelow.{count_below_le}
 use Rattle.bitset.proofs.WithoutLeast.{size_without_least}
 use Rattle.bitset.proofs.LeastBelow.{least_below_member}
@@ -17,7 +17,7 @@ use Rattle.clique.proofs.Routines.{row_decided, row_open, no_candidate, least_ca
 use Rattle.clique.proofs.branching.+branch_choices_branch_row.Goals as goal
 
 -- a member of the word is a place of the tables
-place : (s : ℕ) {v : ℕ} → Member v ≡ least_member s → v < 64
+place : (s : ℕ) {v : ℕ} → Some v ≡ least_member s → v < 64
 place s e = (least_below_member 64 (member s) (sym e)).below
 
 pub branch_choices-branch_row-requires : goal.branch_choices-branch_row-requires
@@ -27,7 +27,7 @@ branch_choices-branch_row-requires t c =
     (omega (arith, c.decreases), (p.0, omega (arith, p.1), next))
 
 pub branch_choices-overflow_cast-next : goal.branch_choices-overflow_cast-next
-branch_choices-overflow_cast-next t c = omega (arith, place c.args.candidates c.in-Member.ensures)
+branch_choices-overflow_cast-next t c = omega (arith, place c.args.candidates c.in-Some.ensures)
 
 pub branch_choices-overflow_add-pairs : goal.branch_choices-overflow_add-pairs
 branch_choices-overflow_add-pairs t c =
@@ -42,8 +42,8 @@ branch_choices-overflow_add-pairs t c =
 pub branch_choices-branch_row-better-requires : goal.branch_choices-branch_row-better-requires
 branch_choices-branch_row-better-requires t c =
     let p = c.requires in
-    let next = decided_mapped c.args.path c.args.depth c.args.pairs (omega arith) p.2 (omega (arith, p.0.old_max, p.1)) c.in-Member.vertex
-    (place c.args.candidates c.in-Member.ensures) in
+    let next = decided_mapped c.args.path c.args.depth c.args.pairs (omega arith) p.2 (omega (arith, p.0.old_max, p.1)) c.in-Some.vertex
+    (place c.args.candidates c.in-Some.ensures) in
     (omega (arith, c.decreases), (p.0, omega (arith, p.1), next))
 
 pub branch_choices-branch_choices-requires : goal.branch_choices-branch_choices-requires
@@ -52,25 +52,25 @@ branch_choices-branch_choices-requires t c = (
     arith,
     c.decreases,
     ap size c.without_least-rest.ensures,
-    size_without_least c.args.candidates c.in-Member.vertex (sym c.in-Member.ensures),
+    size_without_least c.args.candidates c.in-Some.vertex (sym c.in-Some.ensures),
   ),
   c.requires,
 )
 
-pub branch_choices-returns-in-Empty : goal.branch_choices-returns-in-Empty
-branch_choices-returns-in-Empty t c minimum incumbent e =
+pub branch_choices-returns-in-None : goal.branch_choices-returns-in-None
+branch_choices-returns-in-None t c minimum incumbent e =
     let R = lent_rules c.args.orders c.args.allowed.now c.args.edges in
     c.branch_row.ensures minimum incumbent e
     ∙ ap (incumbent_as minimum)
-    (no_candidate R minimum c.args.path c.args.depth incumbent (omega (arith, c.requires.0.old_max, c.requires.1)) _ c.args.candidates (sym c.in-Empty.ensures))
+    (no_candidate R minimum c.args.path c.args.depth incumbent (omega (arith, c.requires.0.old_max, c.requires.1)) _ c.args.candidates (sym c.in-None.ensures))
 
-pub branch_choices-returns-in-Member : goal.branch_choices-returns-in-Member
-branch_choices-returns-in-Member t c minimum incumbent e =
+pub branch_choices-returns-in-Some : goal.branch_choices-returns-in-Some
+branch_choices-returns-in-Some t c minimum incumbent e =
     let R = lent_rules c.args.orders c.args.allowed.now c.args.edges in
     c.branch_choices.ensures minimum _ (c.branch_row-better.ensures minimum incumbent e)
     ∙ ap (incumbent_as minimum)
     (least_candidate R minimum c.args.path c.args.depth incumbent (omega (arith, c.requires.0.old_max, c.requires.1)) _ c.args.candidates
-    c.in-Member.vertex (sym c.in-Member.ensures) c.without_least-rest.ensures)
+    c.in-Some.vertex (sym c.in-Some.ensures) c.without_least-rest.ensures)
 
 pub branch_row-returns-then-depth-orders : goal.branch_row-returns-then-depth-orders
 branch_row-returns-then-depth-orders t c minimum incumbent e =
