@@ -1,6 +1,6 @@
 -- What an answer says in 01's terms: accepted, with a value or with none, or refused, with 01's number and for some numbers a place
 -- (01, "Refusals by place of checking").
-use Rattle.std.specs.Prelude.{Bool, true, false, ℕ}
+use Rattle.std.specs.Prelude.{Bool, true, false, Result, Ok, Err, ℕ}
 
 pub data Answer : Type 0 where
   -- accepted, with nothing to return
@@ -40,3 +40,16 @@ refusal_number answer = on_answer 0 (λ n. 0) (λ n. n) (λ n at. n) answer
 -- the value of an accepted call or the place of a refusal, and 0 where neither is given
 abbrev pub value_of : Answer → ℕ
 value_of answer = on_answer 0 (λ n. n) (λ n. 0) (λ n at. at) answer
+
+-- what a Result says: its value by the first, its error by the second
+abbrev pub result_answer : {T E : Type 0} → (T → Answer) → (E → Answer) → Result T E → Answer
+result_answer accept refuse (Ok x) = accept x
+result_answer accept refuse (Err e) = refuse e
+
+-- what a Result says whose value is the number that is returned
+abbrev pub counted : {E : Type 0} → (E → Answer) → Result ℕ E → Answer
+counted refuse r = result_answer accepted refuse r
+
+-- what a Result says that returns nothing
+abbrev pub tested : {E : Type 0} → (E → Answer) → Result Unit E → Answer
+tested refuse r = result_answer (λ _. passed) refuse r

@@ -21,9 +21,9 @@ use Rattle.bounded.proofs.Tells.{tells_failed, tells_refuted}
 -- ---- a run by its parts
 
 module _ (P : ℕ → Type 0) where
-  pub run_none : (from : ℕ) → Between P from from
+  pub run_none : (from to : ℕ) → to ≤ from → Between P from to
   unfolding Between
-  run_none from i h l = absurd (omega arith)
+  run_none from to none i h l = absurd (omega arith)
 
   pub run_one : (from : ℕ) → P from → Between P from (from + 1)
   unfolding Between
@@ -40,6 +40,10 @@ module _ (P : ℕ → Type 0) where
         | yes below ↦ p i h below
         | no above ↦ q i (omega arith) l
       ]
+
+  -- the word that follows k others
+  pub run_word : (from k : ℕ) → Between P from (8 * k) → Between P (8 * k) (8 * k + 8) → Between P from (8 * (k + 1))
+  run_word from k p q = let more : 8 * k + 8 ≡ 8 * (k + 1) = omega arith in subst (Between P from) more (run_join from (8 * k) (8 * k + 8) p q)
 
   pub run_part : (from to first last : ℕ) → from ≤ first → last ≤ to → Between P from to → Between P first last
   unfolding Between

@@ -11,7 +11,9 @@ mod table_tests;
 ghost use Rattle.std.specs.Prelude.{◌≡◌};
 ghost use Rattle.graph.specs.Graph.{graph};
 ghost use Rattle.graph.specs.Soundness.{tables_fit, soundness};
-ghost use Rattle.graph.specs.Answers.{soundness_answer};
+ghost use Rattle.graph.specs.Answers.{flaw_refusal, soundness_answer};
+
+use answers::Refusal;
 
 // A vertex label: one alias says its width.
 pub type Label = u16;
@@ -22,45 +24,48 @@ pub const MAX_ORDER: usize = 64;
 pub const EDGE_BYTES: usize = 4096;
 
 // Why lent tables hold no sound graph.
-#[derive(Clone, Copy)]
+#[derive(Clone, Copy, Debug, PartialEq, Eq)]
 pub enum Flaw {
     Tables,
     Labels,
     Edges,
 }
 
-// The answer of `check_graph`.
-#[derive(Clone, Copy)]
-pub enum Soundness {
-    Sound,
-    Flawed(Flaw),
+impl Refusal for Flaw {
+    ghost says = { flaw_refusal };
+
+    fn number(self) -> u8 {
+        match self {
+            Flaw::Tables => 10,
+            Flaw::Labels => 11,
+            Flaw::Edges => 12,
+        }
+    }
+
+    fn place(self) -> usize {
+        0
+    }
 }
 
 // Whether the tables have 64 labels and 4,096 bytes, and the order is at most 64.
 pub fn tables_fit(order: usize, labels: &[Label], edges: &[u8]) -> bool
     ensures { result ≡ tables_fit order labels.now edges.now }
 {
-    if labels.len() != MAX_ORDER {
-        return false;
-    }
-    if edges.len() != EDGE_BYTES {
-        return false;
-    }
-    order <= MAX_ORDER
+    labels.len() == MAX_ORDER && edges.len() == EDGE_BYTES && order <= MAX_ORDER
 }
 
 // Whether the tables hold a sound graph of that order.
-pub fn check_graph(order: usize, labels: &[Label], edges: &[u8]) -> Soundness
+pub fn check_graph(order: usize, labels: &[Label], edges: &[u8]) -> Result<(), Flaw>
     ensures { soundness_answer result ≡ soundness (graph order labels.now edges.now) }
 {
     if !tables_fit(order, labels, edges) {
-        return Soundness::Flawed(Flaw::Tables);
+        return Err(Flaw::Tables);
     }
     if !table_tests::labels_sound(order, labels) {
-        return Soundness::Flawed(Flaw::Labels);
+        return Err(Flaw::Labels);
     }
     if !table_tests::edges_sound(order, edges) {
-        return Soundness::Flawed(Flaw::Edges);
+        return Err(Flaw::Edges);
     }
-    Soundness::Sound
+    Ok(())
 }

@@ -4,6 +4,7 @@ ghost use Rattle.std.specs.Prelude.{◌≡◌, ◌↔◌, true, ◌+◌, ◌%◌
 ghost use Rattle.graph.specs.Graph.{place};
 ghost use Rattle.graph.specs.EdgeRows.{Between, Null};
 
+use super::joined::WORD;
 use super::{MAX_ORDER, joined};
 
 // Eight bytes are 0 exactly where the number that they say is (`from_little_zero`).
@@ -18,8 +19,8 @@ pub fn words_null(edges: &[u8], from: usize, to: usize) -> bool
     requires { (length edges.now ≡ 4096) × (to ≤ 4096) × (from % 8 ≡ 0) × (to % 8 ≡ 0) }
     ensures { (result ≡ true) ↔ Between (Null edges.now) from to }
 {
-    for place in (from..to).step_by(8) {
-        if !eight_null(edges, place) {
+    for word in from / WORD..to / WORD {
+        if !eight_null(edges, WORD * word) {
             return false;
         }
     }
@@ -44,7 +45,7 @@ pub fn columns_null(order: usize, edges: &[u8], a: usize) -> bool
     ensures { (result ≡ true) ↔ Between (Null edges.now) (place a order) (place a 64) }
 {
     let row = MAX_ORDER * a;
-    let aligned = (order + 7) / 8 * 8;
+    let aligned = (order + 7) / WORD * WORD;
     if !bytes_null(edges, row + order, row + aligned) {
         return false;
     }

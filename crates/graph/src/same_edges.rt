@@ -3,6 +3,7 @@
 ghost use Rattle.std.specs.Prelude.{◌≡◌, ◌↔◌, true, ◌+◌, ◌%◌, ◌≤◌, ◌<◌, length};
 ghost use Rattle.graph.specs.EdgeRows.{Between, Same};
 
+use super::joined::WORD;
 use super::{MAX_ORDER, joined};
 
 // Eight bytes are those of eight others exactly where their numbers are the same (`from_little_injective`).
@@ -19,8 +20,8 @@ fn words_same(edges: &[u8], a: usize, to: usize) -> bool
     requires { (length edges.now ≡ 4096) × (a < 64) × (to ≤ 64) × (to % 8 ≡ 0) }
     ensures { (result ≡ true) ↔ Between (Same edges.now a) 0 to }
 {
-    for b in (0..to).step_by(8) {
-        if !eight_same(edges, a, b) {
+    for word in 0..to / WORD {
+        if !eight_same(edges, a, WORD * word) {
             return false;
         }
     }
@@ -44,7 +45,7 @@ pub fn same_before(edges: &[u8], a: usize) -> bool
     requires { (length edges.now ≡ 4096) × (a < 64) }
     ensures { (result ≡ true) ↔ Between (Same edges.now a) 0 a }
 {
-    let aligned = a / 8 * 8;
+    let aligned = a / WORD * WORD;
     if !words_same(edges, a, aligned) {
         return false;
     }

@@ -1,6 +1,6 @@
 -- `graph::null_edges::bytes_null` meets its contract: the bytes tested so far are 0.
 -- Assumes nothing.
-use Prim.Native.Nat.{◌-◌, ◌≤◌}
+use Prim.Native.Nat.{◌≤◌}
 use Rattle.graph.specs.EdgeRows.{Between, Null}
 use Rattle.graph.proofs.null_edges.bytes_null.Given as goal
 

@@ -4,7 +4,7 @@ use Rattle.bounded.proofs.Tells.{tells_passed, tells_failed}
 use Rattle.graph.proofs.same_edges.bytes_same.Goals as goal
 
 pub loop-b-init : goal.loop-b-init
-loop-b-init c = (omega arith, run_none _ _)
+loop-b-init c = (omega arith, run_none _ _ _ (omega arith))
 
 pub returns-then-edges-a : goal.returns-then-edges-a
 returns-then-edges-a c = tells_failed (λ same. c.if-edges-a.true (run_at _ _ _ _ same c.loop-b.invariant.0 c.loop-b-test.true))

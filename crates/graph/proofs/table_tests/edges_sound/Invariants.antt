@@ -1,7 +1,7 @@
 -- `graph::table_tests::edges_sound` meets its contract: the rows tested so far are sound, and what the tests ask of all rows is what
 -- `edges_sound` asks (`EdgeRows`).
 -- Assumes nothing.
-use Prim.Native.Nat.{ℕ, ◌-◌, ◌<◌}
+use Prim.Native.Nat.{ℕ, ◌<◌}
 use Rattle.graph.specs.EdgeRows.{VertexRow}
 use Rattle.graph.proofs.table_tests.edges_sound.Given as goal
 

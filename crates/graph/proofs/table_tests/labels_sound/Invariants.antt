@@ -1,6 +1,5 @@
 -- `graph::table_tests::labels_sound` meets its contract: the labels tested so far have passed.
 -- Assumes nothing.
-use Prim.Native.Nat.{◌-◌}
 use Rattle.bounded.proofs.AllBelow.{PassedTo}
 use Rattle.graph.specs.Soundness.{label_sound}
 use Rattle.graph.proofs.table_tests.labels_sound.Given as goal
