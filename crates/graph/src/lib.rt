@@ -9,7 +9,7 @@ mod same_edges;
 mod table_tests;
 
 ghost use Rattle.std.specs.Prelude.{◌≡◌};
-ghost use Rattle.graph.specs.Graph.{graph};
+ghost use Rattle.graph.specs.Lent.{lent_graph};
 ghost use Rattle.graph.specs.Soundness.{tables_fit, soundness};
 ghost use Rattle.graph.specs.Answers.{flaw_refusal, soundness_answer};
 
@@ -47,25 +47,35 @@ impl Refusal for Flaw {
     }
 }
 
-// Whether the tables have 64 labels and 4,096 bytes, and the order is at most 64.
-pub fn tables_fit(order: usize, labels: &[Label], edges: &[u8]) -> bool
-    ensures { result ≡ tables_fit order labels.now edges.now }
-{
-    labels.len() == MAX_ORDER && edges.len() == EDGE_BYTES && order <= MAX_ORDER
+// A graph as it is lent: its order, and its two tables, of any lengths.
+#[derive(Clone, Copy)]
+pub struct Graph<'a> {
+    pub order: usize,
+    pub labels: &'a [Label],
+    pub edges: &'a [u8],
 }
 
-// Whether the tables hold a sound graph of that order.
-pub fn check_graph(order: usize, labels: &[Label], edges: &[u8]) -> Result<(), Flaw>
-    ensures { soundness_answer result ≡ soundness (graph order labels.now edges.now) }
-{
-    if !tables_fit(order, labels, edges) {
-        return Err(Flaw::Tables);
+impl<'a> Graph<'a> {
+    // Whether the tables have 64 labels and 4,096 bytes, and the order is at most 64.
+    pub fn tables_fit(self) -> bool
+        ensures { result ≡ tables_fit self.entry.order self.entry.labels.now self.entry.edges.now }
+    {
+        self.labels.len() == MAX_ORDER && self.edges.len() == EDGE_BYTES && self.order <= MAX_ORDER
     }
-    if !table_tests::labels_sound(order, labels) {
-        return Err(Flaw::Labels);
+
+    // Whether the tables hold a sound graph of that order.
+    pub fn check(self) -> Result<(), Flaw>
+        ensures { soundness_answer result ≡ soundness (lent_graph self.entry) }
+    {
+        if !self.tables_fit() {
+            return Err(Flaw::Tables);
+        }
+        if !table_tests::labels_sound(self.order, self.labels) {
+            return Err(Flaw::Labels);
+        }
+        if !table_tests::edges_sound(self.order, self.edges) {
+            return Err(Flaw::Edges);
+        }
+        Ok(())
     }
-    if !table_tests::edges_sound(order, edges) {
-        return Err(Flaw::Edges);
-    }
-    Ok(())
 }
