@@ -8,6 +8,3 @@ use Rattle.connected.proofs.mapped_set.Given as goal
 
 abbrev pub invariant-loop-v : goal.invariant-loop-v
 invariant-loop-v l = (l.v ≤ 64) × (l.set ≡ set_of l.v (is_mapped l.mapping))
-
-abbrev pub decreases-loop-v : goal.decreases-loop-v
-decreases-loop-v l = 64 - l.v

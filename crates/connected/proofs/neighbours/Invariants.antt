@@ -8,6 +8,3 @@ use Rattle.connected.proofs.neighbours.Given as goal
 
 abbrev pub invariant-loop-v : goal.invariant-loop-v
 invariant-loop-v l = (l.v ≤ 64) × SettledTo (neighbours l.edges) (replicate 64 0) l.v l.words
-
-abbrev pub decreases-loop-v : goal.decreases-loop-v
-decreases-loop-v l = 64 - l.v

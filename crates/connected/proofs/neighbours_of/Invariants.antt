@@ -8,6 +8,3 @@ use Rattle.connected.proofs.neighbours_of.Given as goal
 
 abbrev pub invariant-loop-u : goal.invariant-loop-u
 invariant-loop-u l = (l.u ≤ 64) × (l.set ≡ set_of l.u (adjacent l.edges l.vertex.0))
-
-abbrev pub decreases-loop-u : goal.decreases-loop-u
-decreases-loop-u l = 64 - l.u

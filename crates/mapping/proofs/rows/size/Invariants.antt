@@ -8,6 +8,3 @@ use Rattle.mapping.proofs.rows.size.Given as goal
 
 abbrev pub invariant-loop-v : goal.invariant-loop-v
 invariant-loop-v l = (l.v ≤ length l.mapping) × (l.count ≤ l.v) × (l.count + length (mapped_from l.v (drop l.v l.mapping)) ≡ size l.mapping)
-
-abbrev pub decreases-loop-v : goal.decreases-loop-v
-decreases-loop-v l = length l.mapping - l.v
