@@ -1,6 +1,6 @@
 -- `problem::vertex_sets::diagonal` meets its contract: the numbers passed have their edges with themselves.
 -- Assumes nothing.
-use Prim.Native.Nat.{◌-◌, ◌≤◌}
+use Prim.Native.Nat.{◌≤◌}
 use lib.ListN.{get_or, replicate}
 use Rattle.bounded.proofs.Settled.{SettledTo}
 use Rattle.graph.specs.Graph.{place}

@@ -1,6 +1,6 @@
 -- `problem::vertex_sets::meet_all` meets its contract: the words passed have met those of the other list.
 -- Assumes nothing.
-use Prim.Native.Nat.{◌-◌, ◌≤◌}
+use Prim.Native.Nat.{◌≤◌}
 use lib.ListN.{get_or, replicate}
 use Rattle.bitset.specs.Members.{meet_of}
 use Rattle.bounded.proofs.Settled.{SettledTo}
