@@ -6,19 +6,20 @@ use Prim.Native.Nat.{ℕ}
 use lib.ListN.{replicate}
 use Rattle.graph_reader.specs.Reading.{reading_edition}
 use Rattle.graph_reader.proofs.read_edition.Goals as goal
+use Rattle.graph_reader.proofs.read_edition.Goals.{then-labels-ne-MAX_ORDER-via-then-labels-ne-MAX_ORDER, then-labels-ne-MAX_ORDER-via-else-labels-ne-MAX_ORDER+then-edges-ne-EDGE_BYTES}
 
 pub returns-then-labels-ne-MAX_ORDER : goal.returns-then-labels-ne-MAX_ORDER
 unfolding reading_edition
-returns-then-labels-ne-MAX_ORDER c = simp (ne_eqb _ _ c.if-labels-ne-MAX_ORDER.true)
-
-pub returns-then-edges-ne-EDGE_BYTES : goal.returns-then-edges-ne-EDGE_BYTES
-unfolding reading_edition
-returns-then-edges-ne-EDGE_BYTES c = simp (eq-eqb _ _ c.if-labels-ne-MAX_ORDER.false, ne_eqb _ _ c.if-edges-ne-EDGE_BYTES.true)
+returns-then-labels-ne-MAX_ORDER c =
+    elim c.then-labels-ne-MAX_ORDER.branch [
+      | then-labels-ne-MAX_ORDER-via-then-labels-ne-MAX_ORDER w ↦ simp (ne_eqb _ _ w.if-labels-ne-MAX_ORDER.true)
+      | then-labels-ne-MAX_ORDER-via-else-labels-ne-MAX_ORDER+then-edges-ne-EDGE_BYTES w ↦ simp (eq-eqb _ _ w.if-labels-ne-MAX_ORDER.false, ne_eqb _ _ w.if-edges-ne-EDGE_BYTES.true)
+    ]
 
 pub read_file-requires : goal.read_file-requires
 read_file-requires c = (
-  c.clear_labels.ensures ∙ ap (λ (n : ℕ). replicate n 0) c.if-labels-ne-MAX_ORDER.false,
-  c.clear.ensures ∙ ap (λ (n : ℕ). replicate n 0) c.if-edges-ne-EDGE_BYTES.false,
+  c.fill.ensures.after (λ y e. e) ∙ ap (λ (n : ℕ). replicate n 0) c.if-labels-ne-MAX_ORDER.false,
+  c.fill-2.ensures.after (λ y e. e) ∙ ap (λ (n : ℕ). replicate n 0) c.if-edges-ne-EDGE_BYTES.false,
 )
 
 pub returns : goal.returns

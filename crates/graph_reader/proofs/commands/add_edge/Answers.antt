@@ -14,13 +14,6 @@ returns-then-order-first c =
     let missing = le-leb a.order (max a.a a.b) (omega arith) in
     λ to labels. record { verdict = simp (missing); labels_after = simp (missing); edges_after = simp (missing) }
 
-pub returns-then-order-second : goal.returns-then-order-second
-unfolding judge
-returns-then-order-second c =
-    let a = c.args in
-    let missing = le-leb a.order (max a.a a.b) (omega arith) in
-    λ to labels. record { verdict = simp (missing); labels_after = simp (missing); edges_after = simp (missing) }
-
 pub returns-then-edge_label-eq0 : goal.returns-then-edge_label-eq0
 unfolding judge
 returns-then-edge_label-eq0 c =

@@ -14,6 +14,6 @@ returns c =
     let pre = first.requires in
     λ i. record {
       answer = refused_at (fault_number first.args.fault) first.args.at;
-      labels = (first.clear_labels.ensures ∙ ap (λ (n : ℕ). replicate n 0) pre.0) i;
-      edges = (second.clear.ensures ∙ ap (λ (n : ℕ). replicate n 0) pre.1) i;
+      labels = (first.fill.ensures.after (λ y e. e) ∙ ap (λ (n : ℕ). replicate n 0) pre.0) i;
+      edges = (second.fill-2.ensures.after (λ y e. e) ∙ ap (λ (n : ℕ). replicate n 0) pre.1) i;
     }

@@ -1,7 +1,7 @@
--- `graph_reader::editions::judge_opening` meets its contract: the edition is the one that the arm names.
+-- `graph_reader::Edition::judge_opening` meets its contract: the edition is the one that the arm names.
 -- Assumes nothing.
 use Rattle.graph_reader.specs.Reading.{opens}
-use Rattle.graph_reader.proofs.editions.judge_opening.Goals as goal
+use Rattle.graph_reader.proofs.Edition.judge_opening.Goals as goal
 
 pub returns-in-One : goal.returns-in-One
 unfolding opens
