@@ -54,6 +54,7 @@ impl Command {
 }
 
 // The next vertex, with its label: the graph's order after it.
+#[tactic(auto, unfolding(crate::specs::Reading::judge))]
 pub fn add_vertex(
     to: Edition,
     label: Label,
@@ -77,6 +78,7 @@ pub fn add_vertex(
 }
 
 // An edge between two vertices, which may be one and the same, entered both ways.
+#[tactic(auto, unfolding(crate::specs::Reading::judge))]
 pub fn add_edge(
     a: u8,
     b: u8,
@@ -104,6 +106,7 @@ pub fn add_edge(
 }
 
 // One command, judged against the graph so far and added to its tables if it stands: the order it makes, or none at the end.
+#[tactic(auto, unfolding(crate::specs::Reading::judge))]
 pub fn apply(
     to: Edition,
     command: Command,
