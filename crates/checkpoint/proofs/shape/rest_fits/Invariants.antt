@@ -11,6 +11,3 @@ use Rattle.checkpoint.proofs.shape.rest_fits.Given as goal
 abbrev pub invariant-loop-i : goal.invariant-loop-i
 invariant-loop-i l =
     (l.used ≡ cond l.holds l.order 0) × PassedTo 64 (rest_fits l.order (with_bytes l.depth l.holds l.path l.incumbent)) l.i
-
-abbrev pub decreases-loop-i : goal.decreases-loop-i
-decreases-loop-i l = 64 - l.i

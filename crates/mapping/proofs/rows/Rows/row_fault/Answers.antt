@@ -1,4 +1,4 @@
--- `mapping::rows::row_fault` meets its contract: at each return the tests that led there say what `lent_row` computes to.
+-- `mapping::rows::Rows::row_fault` meets its contract: at each return the tests that led there say what `lent_row` computes to.
 -- Assumes nothing.
 use borrow.Author.Tests.{eq-eqb, ne_eqb, lt-ltb, le-ltb}
 use mathlib.Core.Path.{sym, ◌∙◌}
@@ -6,58 +6,54 @@ use Prim.Native.Nat.{◌<◌}
 use native.Mathlib.Omega.{arith}
 use lib.ListN.{get_or}
 use Rattle.mapping.specs.LentRows.{lent_row}
-use Rattle.mapping.proofs.rows.row_fault.Goals as goal
-use Rattle.mapping.proofs.rows.row_fault.Goals.{Else-orders-w}
+use Rattle.mapping.proofs.rows.Rows.row_fault.Goals as goal
+use Rattle.mapping.proofs.rows.Rows.row_fault.Goals.{Else-self-w}
 
 pub returns-then-image : goal.returns-then-image
 unfolding lent_row
 returns-then-image c = simp (eq-eqb _ _ c.if-image.true)
 
-pub overflow_cast-w : goal.overflow_cast-w
-overflow_cast-w c =
-    omega (arith, c.shared_slice_known-2-1.given c.args.v.0)
-
-pub returns-then-orders-w : goal.returns-then-orders-w
+pub returns-then-self-w : goal.returns-then-self-w
 unfolding lent_row
-returns-then-orders-w c = simp (ne_eqb _ _ c.if-image.false, le-ltb _ _ c.if-orders-w.true)
+returns-then-self-w c = simp (ne_eqb _ _ c.if-image.false, le-ltb _ _ c.if-self-w.true)
 
 pub returns-then-not-compare_vertices : goal.returns-then-not-compare_vertices
 unfolding lent_row
 returns-then-not-compare_vertices c =
     simp (
       ne_eqb _ _ c.if-image.false,
-      lt-ltb _ _ c.if-orders-w.false,
+      lt-ltb _ _ c.if-self-w.false,
       sym c.compare_vertices.ensures ∙ c.if-not-compare_vertices.true,
     )
 
 -- the row's image, once it is known to be a new vertex, is a place of the tables
-below : (e : Else-orders-w) → get_or e.args.mapping.now e.args.v.0 0 < 64
-below e = omega (arith, e.if-orders-w.false, e.requires.both_long.1)
+below : (e : Else-self-w) → get_or e.args.self.mapping.now e.args.v.0 0 < 64
+below e = omega (arith, e.if-self-w.false, e.requires.long.1)
 
 pub compare_edges-requires : goal.compare_edges-requires
 compare_edges-requires c =
-    let row : c.args.v.0 < 64 = omega (arith, c.requires.mapping_len_bound.0, c.requires.mapping_len_bound.1) in (c.requires.both_long.0, row, row, below (goal.at.compare_edges-requires c).Else-orders-w, below (goal.at.compare_edges-requires c).Else-orders-w)
+    let row : c.args.v.0 < 64 = omega (arith, c.requires.below.0, c.requires.below.1) in (c.requires.long.0, row, row, below (goal.at.compare_edges-requires c).Else-self-w, below (goal.at.compare_edges-requires c).Else-self-w)
 
 pub returns-then-not-compare_edges : goal.returns-then-not-compare_edges
 unfolding lent_row
 returns-then-not-compare_edges c =
     simp (
       ne_eqb _ _ c.if-image.false,
-      lt-ltb _ _ c.if-orders-w.false,
+      lt-ltb _ _ c.if-self-w.false,
       sym c.compare_vertices.ensures ∙ c.if-not-compare_vertices.false,
       sym c.compare_edges.ensures ∙ c.if-not-compare_edges.true,
     )
 
 pub first_clash-requires : goal.first_clash-requires
 first_clash-requires c =
-    record { both_long = (c.requires.both_long.0, c.requires.mapping_len_bound.0, c.requires.mapping_len_bound.1); v_bound = (below (goal.at.first_clash-requires c).Else-orders-w, c.requires.mapping_len_bound.2) }
+    record { long = (c.requires.long.0, c.requires.below.0, c.requires.below.1); below = (below (goal.at.first_clash-requires c).Else-self-w, c.requires.below.2) }
 
 pub returns : goal.returns
 unfolding lent_row
 returns c =
     simp (
       ne_eqb _ _ c.if-image.false,
-      lt-ltb _ _ c.if-orders-w.false,
+      lt-ltb _ _ c.if-self-w.false,
       sym c.compare_vertices.ensures ∙ c.if-not-compare_vertices.false,
       sym c.compare_edges.ensures ∙ c.if-not-compare_edges.false,
     )

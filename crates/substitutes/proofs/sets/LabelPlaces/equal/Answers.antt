@@ -4,8 +4,8 @@ use lib.ListN.{get_or-replicate}
 use borrow.Author.Tests.{lt-ltb, le-ltb}
 use Rattle.bounded.proofs.Settled.{settled_none, settled_more, settled_skip}
 use borrow.Author.Rules.{rules}
-use Rattle.substitutes.proofs.sets.equal.Goals as goal
-use Rattle.substitutes.proofs.sets.equal.Goals.{else-v-old, then-v-old}
+use Rattle.substitutes.proofs.sets.LabelPlaces.equal.Goals as goal
+use Rattle.substitutes.proofs.sets.LabelPlaces.equal.Goals.{else-v-old, then-v-old}
 
 pub loop-v-init : goal.loop-v-init
 loop-v-init c = (search rules, settled_none _ _)

@@ -6,8 +6,8 @@ use borrow.Author.Tests.{lt-ltb, le-ltb}
 use Rattle.bounded.proofs.Settled.{settled_none, settled_more, settled_skip}
 use Rattle.bitset.specs.Members.{union_of}
 use borrow.Author.Rules.{rules}
-use Rattle.substitutes.proofs.sets.spread.Goals as goal
-use Rattle.substitutes.proofs.sets.spread.Goals.{else-v-old, then-v-old}
+use Rattle.substitutes.proofs.sets.LabelPlaces.spread.Goals as goal
+use Rattle.substitutes.proofs.sets.LabelPlaces.spread.Goals.{else-v-old, then-v-old}
 
 pub loop-v-init : goal.loop-v-init
 loop-v-init c = (search rules, settled_none _ _)
