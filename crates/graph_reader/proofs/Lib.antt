@@ -1,8 +1,6 @@
-pub mod Cleared
 pub mod Examples
 pub mod Fuel
 pub mod Judge
-pub mod MadeReader
 pub mod Openings
 pub mod ReadLoop
 pub mod ReadSound

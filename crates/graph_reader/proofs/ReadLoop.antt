@@ -8,7 +8,7 @@ use lib.Seq.{drop-drop}
 use Rattle.graph.specs.Graph.{Graph, graph, empty_graph}
 use Rattle.graph_reader.specs.declared.Edition.{Edition}
 use Rattle.graph_reader.specs.declared.commands.Command.{Command}
-use Rattle.graph_reader.specs.declared.commands.Step.TheVariants.{Grown, Ended, Faulty}
+use Rattle.std.specs.Prelude.{Some, None, Ok, Err}
 use Rattle.graph_reader.specs.declared.Fault.{Fault}
 use Rattle.graph_reader.specs.Answers.{fault_number}
 use Rattle.graph_reader.specs.Commands.{decode, width}
@@ -59,7 +59,7 @@ module _ (from to : Edition) (bytes labels edges : List ℕ) (order at : ℕ) (h
       ∙ rw (← told, e, drop-drop, drop-drop)
 
   -- a command that stands: the invariant holds again, and fewer bytes are left
-  module _ (next : ℕ) (labels' edges' : List ℕ) (made : verdict_of (Grown next) labels' edges' ≡ judge to (graph order labels edges) command) where
+  module _ (next : ℕ) (labels' edges' : List ℕ) (made : verdict_of (Ok (Some next)) labels' edges' ≡ judge to (graph order labels edges) command) where
     pub more_fits : (1 ≤ width from command) × (at + width from command ≤ length bytes)
     more_fits =
         let f = decode_fits from to (graph order labels edges) (drop at bytes) (graph next labels' edges') (ap (judge to (graph order labels edges)) (sym told) ∙ sym made) in
@@ -80,7 +80,7 @@ module _ (from to : Edition) (bytes labels edges : List ℕ) (order at : ℕ) (h
     falls = omega (arith, more_fits)
 
   -- the end: the tables stay, and a byte was there
-  module _ (labels' edges' : List ℕ) (made : verdict_of Ended labels' edges' ≡ judge to (graph order labels edges) command) where
+  module _ (labels' edges' : List ℕ) (made : verdict_of (Ok None) labels' edges' ≡ judge to (graph order labels edges) command) where
     pub end_reads : whole from to bytes ≡ finish (graph order labels edges) (at + 1) (drop (at + 1) bytes)
     end_reads = by_verdict ends made
 
@@ -96,6 +96,6 @@ module _ (from to : Edition) (bytes labels edges : List ℕ) (order at : ℕ) (h
         ap₂ (graph order) (l ∙ ap (λ (g : Graph). g.labels) same) (e ∙ ap (λ (g : Graph). g.edges) same)
 
   -- a fault
-  pub fault_reads : (labels' edges' : List ℕ) (fault : Fault) → verdict_of (Faulty fault) labels' edges' ≡ judge to (graph order labels edges) command
+  pub fault_reads : (labels' edges' : List ℕ) (fault : Fault) → verdict_of (Err fault) labels' edges' ≡ judge to (graph order labels edges) command
       → whole from to bytes ≡ refuse_at (fault_number fault) at
   fault_reads labels' edges' fault made = by_verdict (faulty (fault_number fault)) made

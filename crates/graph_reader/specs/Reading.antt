@@ -1,16 +1,15 @@
 -- Reading graph bytes: each command judged in 01's order, the earliest at fault giving number and place, and both tables at the end
 -- (01, "Charts" and "Refusals by place of checking"; 02, U6, for the two editions). The bytes are of the edition `from`, and the graph is to fit the edition
 -- `to`, which is the same where a file is read alone, and the one that is written where it is moved.
-use Rattle.std.specs.Prelude.{◌≡◌, cond, ◌&&◌, List, ℕ, zero, suc, ◌+◌, max, leb, eqb, length, get_or, drop, set, replicate}
+use Rattle.std.specs.Prelude.{◌≡◌, cond, ◌&&◌, Option, Some, None, Result, Ok, Err, List, ℕ, zero, suc, ◌+◌, max, leb, eqb, length, get_or, drop, set, replicate}
 use Rattle.answers.specs.Answer.{Answer, passed, accepted, refused, refused_at, when_passed}
 use Rattle.graph.specs.Graph.{Graph, graph, place, edge, empty_graph}
 use Rattle.graph_reader.specs.declared.Edition.{Edition}
 use Rattle.graph_reader.specs.declared.Edition.TheVariants.{One, Two}
 use Rattle.graph_reader.specs.declared.commands.Command.{Command}
 use Rattle.graph_reader.specs.declared.commands.Command.TheVariants.{Vertex, Edge, End, Truncated, Unknown}
-use Rattle.graph_reader.specs.declared.commands.Step.{Step}
-use Rattle.graph_reader.specs.declared.commands.Step.TheVariants.{Grown, Ended, Faulty}
-use Rattle.graph_reader.specs.declared.ReadAnswer.{ReadAnswer}
+use Rattle.graph_reader.specs.declared.Fault.{Fault}
+use Rattle.graph_reader.specs.declared.ReadError.{ReadError}
 use Rattle.graph_reader.specs.Answers.{fault_number, read_answer}
 use Rattle.graph_reader.specs.Commands.{decode, width}
 use Rattle.graph_reader.specs.Editions.{opening_width, greatest_label}
@@ -48,14 +47,14 @@ after g (grows g') = g'
 after g ends = g
 after g (faulty number) = g
 
--- what the code's `Step`, with the tables it leaves, says
-abbrev pub verdict_of : Step → List ℕ → List ℕ → Verdict
-verdict_of (Grown order) labels edges = grows (graph order labels edges)
-verdict_of Ended labels edges = ends
-verdict_of (Faulty fault) labels edges = faulty (fault_number fault)
+-- what the code's step says, with the tables it leaves: the order of the graph it made, or none at the end, or a fault
+abbrev pub verdict_of : Result (Option ℕ) Fault → List ℕ → List ℕ → Verdict
+verdict_of (Ok (Some order)) labels edges = grows (graph order labels edges)
+verdict_of (Ok None) labels edges = ends
+verdict_of (Err fault) labels edges = faulty (fault_number fault)
 
--- what the code's `Step`, with both tables it leaves, tells of the command c on the graph g: its verdict, and the graph after it
-pub record Applied (to : Edition) (g : Graph) (c : Command) (step : Step) (labels edges : List ℕ) : Type 0 where
+-- what the code's step, with both tables it leaves, tells of the command c on the graph g: its verdict, and the graph after it
+pub record Applied (to : Edition) (g : Graph) (c : Command) (step : Result (Option ℕ) Fault) (labels edges : List ℕ) : Type 0 where
   pub verdict : verdict_of step labels edges ≡ judge to g c
   pub labels_after : labels ≡ (after g (judge to g c)).labels
   pub edges_after : edges ≡ (after g (judge to g c)).edges
@@ -66,7 +65,7 @@ pub record Reading : Type 0 where
   pub labels : List ℕ
   pub edges : List ℕ
 
-abbrev pub reading_of : ReadAnswer → List ℕ → List ℕ → Reading
+abbrev pub reading_of : Result ℕ ReadError → List ℕ → List ℕ → Reading
 reading_of r labels edges = record { answer = read_answer r; labels = labels; edges = edges }
 
 -- "Refused reading leaves both tables all 0"

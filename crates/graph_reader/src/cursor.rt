@@ -1,5 +1,4 @@
 // The command reader: the lent graph bytes along with the place of the next command and their edition.
-// `command_at` and `place_after` do the work, and `next_command` and `next_place`, whose parameters are plain, serve every caller.
 
 ghost use Rattle.std.specs.Prelude.{◌≡◌, ◌+◌, ◌≤◌, ◌<◌, ◌^◌, length};
 ghost use Rattle.graph_reader.specs.Commands.{width as width_of};
@@ -15,63 +14,30 @@ pub struct Reader<'a> {
     pub edition: Edition,
 }
 
-// The command at a place: the bytes from there on are handed to the decode.
-pub fn command_at(bytes: &[u8], at: usize, edition: Edition) -> Command
-    requires { at ≤ length bytes.now }
-    ensures { result ≡ command_at bytes.now at edition }
-{
-    commands::decode(edition, &bytes[at..])
-}
-
-// The place of the command after this one.
-pub fn place_after(at: usize, edition: Edition, command: Command) -> usize
-    requires { at + width_of edition command < 2 ^ 64 }
-    ensures { result ≡ place_after at edition command }
-{
-    at + commands::width(edition, command)
-}
-
-// A reader of the bytes, at a place.
-pub fn new<'a>(bytes: &'a [u8], at: usize, edition: Edition) -> Reader<'a>
-    ensures { (result.bytes ≡ bytes.entry) × (result.at ≡ at) × (result.edition ≡ edition) }
-{
-    Reader { bytes, at, edition }
-}
-
-// The command at the reader's place.
-pub fn next<'a>(r: Reader<'a>) -> Command
-    requires { r.at ≤ length r.bytes.now }
-    ensures { result ≡ command_at r.entry.bytes.now r.entry.at r.entry.edition }
-{
-    command_at(r.bytes, r.at, r.edition)
-}
-
-// The reader past that command.
-pub fn moved<'a>(r: Reader<'a>, command: Command) -> Reader<'a>
-    requires { r.at + width_of r.edition command < 2 ^ 64 }
-    ensures { (result.bytes ≡ r.entry.bytes) × (result.at ≡ place_after r.entry.at r.entry.edition command) × (result.edition ≡ r.entry.edition) }
-{
-    let at = place_after(r.at, r.edition, command);
-    Reader {
-        bytes: r.bytes,
-        at,
-        edition: r.edition,
+impl<'a> Reader<'a> {
+    // A reader of the bytes, at a place.
+    pub fn new(bytes: &'a [u8], at: usize, edition: Edition) -> Reader<'a>
+        ensures { (result.bytes ≡ bytes.entry) × (result.at ≡ at) × (result.edition ≡ edition) }
+    {
+        Reader { bytes, at, edition }
     }
-}
 
-// The command at a place, by a reader.
-pub fn next_command(bytes: &[u8], at: usize, edition: Edition) -> Command
-    requires { at ≤ length bytes.now }
-    ensures { result ≡ command_at bytes.now at edition }
-{
-    next(new(bytes, at, edition))
-}
+    // The command at the reader's place: the bytes from there on are handed to the decode.
+    pub fn next(self) -> Command
+        requires { self.at ≤ length self.bytes.now }
+        ensures { result ≡ command_at self.entry.bytes.now self.entry.at self.entry.edition }
+    {
+        commands::decode(self.edition, &self.bytes[self.at..])
+    }
 
-// The place past a command, by a reader.
-pub fn next_place(bytes: &[u8], at: usize, edition: Edition, command: Command) -> usize
-    requires { at + width_of edition command < 2 ^ 64 }
-    ensures { result ≡ place_after at edition command }
-{
-    let r = moved(new(bytes, at, edition), command);
-    r.at
+    // The reader past that command.
+    pub fn moved(self, command: Command) -> Reader<'a>
+        requires { self.at + width_of self.edition command < 2 ^ 64 }
+        ensures { (result.bytes ≡ self.entry.bytes) × (result.at ≡ place_after self.entry.at self.entry.edition command) × (result.edition ≡ self.entry.edition) }
+    {
+        Reader {
+            at: self.at + command.width(self.edition),
+            ..self
+        }
+    }
 }

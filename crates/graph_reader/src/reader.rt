@@ -6,19 +6,23 @@ ghost use Rattle.graph_reader.specs.Answers.{fault_number};
 ghost use Rattle.graph_reader.specs.Editions.{opening_width};
 ghost use Rattle.graph_reader.specs.Reading.{reading_of, refuse_at, finish as finished, read_at, read_file};
 
-use super::commands::Step;
-use super::editions::Opening;
-use super::{Edition, Fault, ReadAnswer, commands, cursor, editions, tables};
+use super::cursor::Reader;
+use super::{Edition, Fault, ReadError, commands};
 use graph::Label;
 
 // A refusal: both tables are cleared.
-pub fn refuse(fault: Fault, at: usize, labels: &mut [Label], edges: &mut [u8]) -> ReadAnswer
+pub fn refuse(
+    fault: Fault,
+    at: usize,
+    labels: &mut [Label],
+    edges: &mut [u8],
+) -> Result<usize, ReadError>
     requires { (length labels.old ≡ 64) × (length edges.old ≡ 4096) }
     ensures { reading_of result labels.new edges.new ≡ refuse_at (fault_number fault) at }
 {
-    tables::clear_labels(labels);
-    tables::clear(edges);
-    ReadAnswer::Refused(fault, at)
+    labels.fill(0);
+    edges.fill(0);
+    Err(ReadError::At(fault, at))
 }
 
 // The end, with the bytes from the place `at` on after it.
@@ -28,7 +32,7 @@ pub fn finish(
     order: usize,
     labels: &mut [Label],
     edges: &mut [u8],
-) -> ReadAnswer
+) -> Result<usize, ReadError>
     requires { (length labels.old ≡ 64) × (length edges.old ≡ 4096) × (at ≤ length bytes.now) }
     ensures { reading_of result labels.new edges.new
         ≡ finished (graph order labels.old edges.old) at (drop at bytes.now) }
@@ -36,7 +40,7 @@ pub fn finish(
     if at < bytes.len() {
         return refuse(Fault::TrailingBytes, at, labels, edges);
     }
-    ReadAnswer::Order(order)
+    Ok(order)
 }
 
 // All commands of a file that opens as its edition does, into tables that are all 0.
@@ -46,43 +50,44 @@ pub fn read_commands(
     bytes: &[u8],
     labels: &mut [Label],
     edges: &mut [u8],
-) -> ReadAnswer
+) -> Result<usize, ReadError>
     requires { (labels.old ≡ replicate 64 0) × (edges.old ≡ replicate 4096 0) × (opening_width from ≤ length bytes.now) }
     ensures { reading_of result labels.new edges.new
         ≡ read_at from to empty_graph (opening_width from) (drop (opening_width from) bytes.now) }
 {
     let mut order = 0;
-    let mut at = editions::opening_width(from);
+    let mut reader = Reader::new(bytes, from.opening_width(), from);
     loop {
-        let command = cursor::next_command(bytes, at, from);
+        let command = reader.next();
         match commands::apply(to, command, order, labels, edges) {
-            Step::Grown(next) => {
-                order = next;
-                at = cursor::next_place(bytes, at, from, command);
+            Ok(Some(grown)) => {
+                order = grown;
+                reader = reader.moved(command);
             }
-            Step::Ended => {
-                return finish(bytes, at + 1, order, labels, edges);
+            Ok(None) => {
+                return finish(bytes, reader.at + 1, order, labels, edges);
             }
-            Step::Faulty(fault) => {
-                return refuse(fault, at, labels, edges);
+            Err(fault) => {
+                return refuse(fault, reader.at, labels, edges);
             }
         }
     }
 }
 
 // A whole file, into tables that are all 0.
+#[tactic(auto, unfolding(crate::specs::Reading::read_file))]
 pub fn read_file(
     from: Edition,
     to: Edition,
     bytes: &[u8],
     labels: &mut [Label],
     edges: &mut [u8],
-) -> ReadAnswer
+) -> Result<usize, ReadError>
     requires { (labels.old ≡ replicate 64 0) × (edges.old ≡ replicate 4096 0) }
     ensures { reading_of result labels.new edges.new ≡ read_file from to bytes.now }
 {
-    match editions::judge_opening(from, bytes) {
-        Opening::Faulty(fault) => ReadAnswer::Refused(fault, 0),
-        Opening::Opened => read_commands(from, to, bytes, labels, edges),
+    match from.judge_opening(bytes) {
+        Ok(()) => read_commands(from, to, bytes, labels, edges),
+        Err(fault) => Err(ReadError::At(fault, 0)),
     }
 }

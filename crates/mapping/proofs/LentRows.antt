@@ -11,7 +11,8 @@ use borrow.Author.Tests.{ltb-true, ne_eqb}
 use Rattle.bounded.proofs.First.{first_below_congr}
 use Rattle.substitutes.specs.Agreeing.{Agreeing}
 use Rattle.problem.specs.Problem.{Problem, SoundProblem}
-use Rattle.problem.specs.Lent.{Tables, table_at, lent}
+use Rattle.problem.specs.declared.Problem.{Problem as LentProblem}
+use Rattle.problem.specs.Lent.{lent}
 use Rattle.problem.proofs.VertexSets.{agreeing_vertices, vertex_member}
 use Rattle.mapping.specs.Check.{row_fault, list_outcome, list_by}
 use Rattle.mapping.specs.LentRows.{lent_row}
@@ -21,26 +22,25 @@ pub lent_fits : (P : Problem) → SoundProblem P
     → ((length P.old.edges ≡ 4096) × (length P.new.edges ≡ 4096)) × (P.old.order ≤ 64) × (P.new.order ≤ 64)
 lent_fits P s = ((s.old_sound.edges_length, s.new_sound.edges_length), s.old_sound.order_max, s.new_sound.order_max)
 
-module _ (orders : List ℕ) (labels edges : Tables) (substitutes : List ℕ) {sets : List ℕ} (sound : SoundProblem (lent orders labels edges substitutes))
-    (agreed : Agreeing (table_at labels 0) (table_at labels 1) substitutes sets) where
+module _ (p : LentProblem) {sets : List ℕ} (sound : SoundProblem (lent p)) (agreed : Agreeing p.old.labels.now p.new.labels.now p.substitutes.now sets) where
   -- A row of an old vertex: an entry that is a new vertex is in the row's set exactly where the labels agree.
-  lent_row_lem : (l : List ℕ) (v : ℕ) → v < get_or orders 0 0 → lent_row orders sets edges l v ≡ row_fault (lent orders labels edges substitutes) l v
+  lent_row_lem : (l : List ℕ) (v : ℕ) → v < p.old.order → lent_row p sets l v ≡ row_fault (lent p) l v
   unfolding lent_row row_fault
-  lent_row_lem l v h = go (ltb (get_or l v 0) (get_or orders 1 0)) refl
+  lent_row_lem l v h = go (ltb (get_or l v 0) p.new.order) refl
     where
-      go : (t : Bool) → ltb (get_or l v 0) (get_or orders 1 0) ≡ t → lent_row orders sets edges l v ≡ row_fault (lent orders labels edges substitutes) l v
+      go : (t : Bool) → ltb (get_or l v 0) p.new.order ≡ t → lent_row p sets l v ≡ row_fault (lent p) l v
       go true e =
-          let P = lent orders labels edges substitutes in
+          let P = lent p in
           let below = ltb-true _ _ e in
           rw (vertex_member P (agreeing_vertices P sound agreed) v h (get_or l v 0) below (omega (arith, sound.new_sound.order_max))) refl
       go false e = rw e refl
 
   -- The whole mapping.
-  pub lent_list : (l : List ℕ) → list_by (get_or orders 0 0) (lent_row orders sets edges l) l ≡ list_outcome (lent orders labels edges substitutes) l
+  pub lent_list : (l : List ℕ) → list_by p.old.order (lent_row p sets l) l ≡ list_outcome (lent p) l
   unfolding list_outcome
-  lent_list l = go (ℕ_discrete (length l) (get_or orders 0 0))
+  lent_list l = go (ℕ_discrete (length l) p.old.order)
     where
-      go : Dec (length l ≡ get_or orders 0 0) → list_by (get_or orders 0 0) (lent_row orders sets edges l) l ≡ list_outcome (lent orders labels edges substitutes) l
+      go : Dec (length l ≡ p.old.order) → list_by p.old.order (lent_row p sets l) l ≡ list_outcome (lent p) l
       go (yes e) =
-          rw (first_below_congr (length l) (lent_row orders sets edges l) (row_fault (lent orders labels edges substitutes) l) (λ v h. lent_row_lem l v (omega arith))) refl
-      go (no n) = rw (ne_eqb (length l) (get_or orders 0 0) n) refl
+          rw (first_below_congr (length l) (lent_row p sets l) (row_fault (lent p) l) (λ v h. lent_row_lem l v (omega arith))) refl
+      go (no n) = rw (ne_eqb (length l) p.old.order n) refl

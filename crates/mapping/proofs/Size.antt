@@ -1,7 +1,7 @@
 -- The size of a mapping counts its entries that are not 255, so it adds up row by row.
-use mathlib.Core.Path.{◌≡◌, refl}
+use mathlib.Core.Path.{◌≡◌, refl, ◌∙◌}
 use mathlib.Core.Logic.{◌≢◌}
-use mathlib.Core.Bool.{Bool, true, false, cond}
+use mathlib.Core.Bool.{Bool, true, false, cond, not}
 use mathlib.Core.List.{List, [], ◌∷◌, ◌++◌}
 use Prim.Native.Nat.{ℕ, zero, suc, ◌+◌, ◌≤◌, ◌<◌}
 use native.Mathlib.Nat.{not-suc-le-zero, le_of_suc-le-suc}
@@ -9,6 +9,8 @@ use native.Mathlib.Omega.{arith}
 use lib.Dec.{eqb}
 use lib.ListN.{length, get_or, set, replicate}
 use borrow.Author.Tests.{ne_eqb}
+use Rattle.std.specs.Prelude.{count_by}
+use Rattle.std.proofs.lemmas.List.Recursion.{is_count_by}
 use Rattle.mapping.specs.Common.{unmapped, mapped_from, size}
 
 -- what one entry adds to the size
@@ -71,3 +73,14 @@ pub size_set : (l : List ℕ) (v w : ℕ) → v < length l → get_or l v 0 ≡ 
 size_set [] v w h e m = absurd (not-suc-le-zero h)
 size_set (u ∷ l) zero w h e m = rw e (omega (arith, size_cons w l, size_cons unmapped l, counted_mapped w m))
 size_set (u ∷ l) (suc v) w h e m = omega (arith, size_cons u (set l v w), size_cons u l, size_set l v w (le_of_suc-le-suc h) e m)
+
+-- The size is how many entries are not 255.
+pub size_counts : (l : List ℕ) → size l ≡ count_by (λ w. not (eqb w unmapped)) l
+size_counts l = is_count_by size (λ w. not (eqb w unmapped)) size_nil step l
+  where
+    step : (w : ℕ) (l : List ℕ) → size (w ∷ l) ≡ cond (not (eqb w unmapped)) (1 + size l) (size l)
+    step w l = size_cons w l ∙ go (eqb w unmapped)
+      where
+        go : (t : Bool) → cond t 0 1 + size l ≡ cond (not t) (1 + size l) (size l)
+        go true = omega arith
+        go false = refl

@@ -1,19 +1,18 @@
 -- The check of a mapping, by the row "Partner list" of 01's refusals: 18, then row by row 19, 21, and against each earlier mapped row, rising, 20 and 22;
 -- 02, U1, puts 23 and 24 before them, and 02, U4, 22 of the row with itself after 21.
-use Rattle.std.specs.Prelude.{Bool, cond, List, ◌≡◌, ℕ, ◌<◌, ltb, eqb, length, get_or}
+use Rattle.std.specs.Prelude.{Bool, cond, Result, Ok, Err, List, ◌≡◌, ℕ, ◌<◌, ltb, eqb, length, get_or}
 use Rattle.std.proofs.Math.Option.{Option, none, some}
 use Rattle.bounded.specs.First.{first_below}
 use Rattle.answers.specs.Answer.{Answer, on_answer, when_passed}
 use Rattle.problem.specs.Problem.{Problem, compare_vertices, compare_edges, problem_answer}
 use Rattle.mapping.specs.Common.{unmapped, size}
-use Rattle.mapping.specs.Answers.{Outcome, accepted, refused, refused_row, refused_rows, Outcomes, flawed, checked, mapping_outcome}
-use Rattle.mapping.specs.declared.rows.Finding.{Finding}
-use Rattle.mapping.specs.declared.rows.Finding.TheVariants.{Clear, Fault}
+use Rattle.mapping.specs.Answers.{Outcome, accepted, refused, refused_row, refused_rows, Outcomes, flawed, checked, fault_outcome}
+use Rattle.mapping.specs.declared.MappingError.{MappingError}
 
--- what the code's `Finding` says
-abbrev pub finding : Finding → Option Outcome
-finding Clear = none
-finding (Fault answer) = some (mapping_outcome answer)
+-- what the code finds in rows
+abbrev pub finding : Result Unit MappingError → Option Outcome
+finding (Ok x) = none
+finding (Err e) = some (fault_outcome e)
 
 -- the mapped entries before row v are below 64, so that they are places of the new graph's tables
 abbrev pub EntriesBelow : List ℕ → ℕ → Type 0

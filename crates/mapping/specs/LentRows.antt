@@ -1,12 +1,13 @@
--- A row of the check by what the code is lent for it: the orders, the sets of vertices whose labels agree, and the edges (01, the row "Partner list" of the
+-- A row of the check by what the code reads for it: of the problem that is lent the new order and the edges, and the sets of vertices whose labels agree (01, the row "Partner list" of the
 -- refusals). For a sound problem it is the row of `Check`.
-use Rattle.std.specs.Prelude.{List, [], ℕ, get_or}
+use Rattle.std.specs.Prelude.{List, ℕ, get_or}
 use Rattle.std.proofs.Math.Option.{Option}
 use Rattle.bitset.specs.Members.{member}
-use Rattle.problem.specs.Lent.{Tables, lent}
+use Rattle.problem.specs.declared.Problem.{Problem as LentProblem}
+use Rattle.problem.specs.Lent.{lent}
 use Rattle.mapping.specs.Answers.{Outcome}
 use Rattle.mapping.specs.Check.{edge_fault, row_by}
 
-unfoldable pub lent_row : List ℕ → List ℕ → Tables → List ℕ → ℕ → Option Outcome
-lent_row orders sets edges l v =
-    row_by (get_or orders 1 0) (member (get_or sets v 0)) (edge_fault (lent [] [] edges []) l v) l v
+unfoldable pub lent_row : LentProblem → List ℕ → List ℕ → ℕ → Option Outcome
+lent_row p sets l v =
+    row_by p.new.order (member (get_or sets v 0)) (edge_fault (lent p) l v) l v

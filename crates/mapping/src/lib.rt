@@ -7,27 +7,28 @@ mod rows;
 
 ghost use Rattle.std.specs.Prelude.{◌≡◌};
 ghost use Rattle.problem.specs.Lent.{lent};
+ghost use Rattle.mapping.specs.declared.MappingError.TheVariants.{Flawed as OfProblem};
 ghost use Rattle.mapping.specs.Common.{size};
-ghost use Rattle.mapping.specs.Answers.{mapping_outcome, mappings_outcome, outcome_number};
+ghost use Rattle.mapping.specs.Answers.{mapping_outcome, mappings_outcome, mapping_refusal};
 ghost use Rattle.mapping.specs.Check.{check_outcome, both_outcomes};
 
-use problem::{Edges, Labels, Orders, ProblemAnswer, ProblemFlaw};
+use answers::Refusal;
+use problem::{Problem, ProblemFlaw};
+use rows::Rows;
 
 // The entry of a row that is left out.
 pub const UNMAPPED: u8 = 255;
 
 // An old and a new vertex: a number of one never serves as the other's.
-#[derive(Clone, Copy)]
+#[derive(Clone, Copy, Debug, PartialEq, Eq)]
 pub struct OldVertex(pub usize);
 
-#[derive(Clone, Copy)]
+#[derive(Clone, Copy, Debug, PartialEq, Eq)]
 pub struct NewVertex(pub usize);
 
-// The answer of `check_mapping`: the mapping's size, or the refusal with its row and, where two rows clash, the earlier row; of a
-// row with itself, that row twice.
-#[derive(Clone, Copy)]
-pub enum MappingAnswer {
-    Common(usize),
+// Why a mapping is no common subgraph, with the row at fault and, where two rows clash, the earlier row; of a row with itself, that row twice.
+#[derive(Clone, Copy, Debug, PartialEq, Eq)]
+pub enum MappingError {
     Flawed(ProblemFlaw),
     Length,
     NoVertex(OldVertex),
@@ -36,27 +37,39 @@ pub enum MappingAnswer {
     EdgesDiffer(OldVertex, OldVertex),
 }
 
-// The answer of `check_mappings`: the graphs' refusal, or what the check says of each list.
-#[derive(Clone, Copy)]
-pub enum MappingsAnswer {
-    Flawed(ProblemFlaw),
-    Checked(MappingAnswer, MappingAnswer),
-}
+impl Refusal for MappingError {
+    ghost says = { mapping_refusal };
 
-// The document's number of a refusal, and 0 where the mapping is a common subgraph.
-pub fn mapping_number(answer: MappingAnswer) -> u8
-    ensures { result ≡ outcome_number (mapping_outcome answer) }
-{
-    match answer {
-        MappingAnswer::Common(_) => 0,
-        MappingAnswer::Flawed(flaw) => problem::problem_flaw_number(flaw),
-        MappingAnswer::Length => 18,
-        MappingAnswer::NoVertex(_) => 19,
-        MappingAnswer::SameImage(_, _) => 20,
-        MappingAnswer::LabelsDisagree(_) => 21,
-        MappingAnswer::EdgesDiffer(_, _) => 22,
+    fn number(self) -> u8 {
+        match self {
+            MappingError::Flawed(flaw) => flaw.number(),
+            MappingError::Length => 18,
+            MappingError::NoVertex(_) => 19,
+            MappingError::SameImage(_, _) => 20,
+            MappingError::LabelsDisagree(_) => 21,
+            MappingError::EdgesDiffer(_, _) => 22,
+        }
+    }
+
+    fn place(self) -> usize {
+        match self {
+            MappingError::Flawed(_) | MappingError::Length => 0,
+            MappingError::NoVertex(row) | MappingError::LabelsDisagree(row) => row.0,
+            MappingError::SameImage(row, _) | MappingError::EdgesDiffer(row, _) => row.0,
+        }
     }
 }
+
+impl From<ProblemFlaw> for MappingError {
+    ghost from_gives = { λ flaw r. r ≡ OfProblem flaw };
+
+    fn from(flaw: ProblemFlaw) -> MappingError {
+        MappingError::Flawed(flaw)
+    }
+}
+
+// What the check of a mapping answers: its size, or why it is no common subgraph.
+pub type Checked = Result<usize, MappingError>;
 
 // The number of pairs of a mapping.
 pub fn mapping_size(mapping: &[u8]) -> usize
@@ -66,44 +79,34 @@ pub fn mapping_size(mapping: &[u8]) -> usize
 }
 
 // Whether the mapping is a common subgraph of the two graphs, under the substitutes.
-pub fn check_mapping<'a>(
-    orders: Orders,
-    labels: Labels<'a>,
-    edges: Edges<'a>,
-    substitutes: &[u8],
-    mapping: &[u8],
-) -> MappingAnswer
-    ensures { mapping_outcome result ≡ check_outcome (lent orders labels.entry edges.entry substitutes.now) mapping.now }
+pub fn check_mapping<'a>(problem: Problem<'a>, mapping: &'a [u8]) -> Checked
+    ensures { mapping_outcome result ≡ check_outcome (lent problem.entry) mapping.now }
 {
-    match problem::check_problem(orders, labels, edges, substitutes) {
-        ProblemAnswer::Flawed(flaw) => MappingAnswer::Flawed(flaw),
-        ProblemAnswer::Sound => {
-            let agreeing = substitutes::agreeing(labels[0], labels[1], substitutes);
-            rows::check_list(orders, &agreeing, edges, mapping)
-        }
-    }
+    problem.check()?;
+    let agreeing = substitutes::agreeing(
+        problem.old.labels,
+        problem.new.labels,
+        problem.substitutes,
+    );
+    rows::check_list(problem, &agreeing, mapping)
 }
 
 // Whether each of two mappings is a common subgraph: the graphs and the substitutes are tested once for both.
 pub fn check_mappings<'a>(
-    orders: Orders,
-    labels: Labels<'a>,
-    edges: Edges<'a>,
-    substitutes: &[u8],
-    first: &[u8],
-    second: &[u8],
-) -> MappingsAnswer
-    ensures { mappings_outcome result
-        ≡ both_outcomes (lent orders labels.entry edges.entry substitutes.now) first.now second.now }
+    problem: Problem<'a>,
+    first: &'a [u8],
+    second: &'a [u8],
+) -> Result<(Checked, Checked), ProblemFlaw>
+    ensures { mappings_outcome result ≡ both_outcomes (lent problem.entry) first.now second.now }
 {
-    match problem::check_problem(orders, labels, edges, substitutes) {
-        ProblemAnswer::Flawed(flaw) => MappingsAnswer::Flawed(flaw),
-        ProblemAnswer::Sound => {
-            let agreeing = substitutes::agreeing(labels[0], labels[1], substitutes);
-            MappingsAnswer::Checked(
-                rows::check_list(orders, &agreeing, edges, first),
-                rows::check_list(orders, &agreeing, edges, second),
-            )
-        }
-    }
+    problem.check()?;
+    let agreeing = substitutes::agreeing(
+        problem.old.labels,
+        problem.new.labels,
+        problem.substitutes,
+    );
+    Ok((
+        rows::check_list(problem, &agreeing, first),
+        rows::check_list(problem, &agreeing, second),
+    ))
 }

@@ -1,49 +1,34 @@
 // The check of a mapping row by row, each row with itself and then against the earlier ones.
 
-ghost use Rattle.std.specs.Prelude.{◌≡◌, [], ◌≤◌, ◌<◌, length, get_or};
+ghost use Rattle.std.specs.Prelude.{◌≡◌, ◌≤◌, ◌<◌, length, get_or};
 ghost use Rattle.bounded.specs.First.{first_below};
 ghost use Rattle.bitset.specs.Members.{member};
 ghost use Rattle.problem.specs.Problem.{compare_edges};
-ghost use Rattle.problem.specs.Lent.{lent, BothLong};
+ghost use Rattle.problem.specs.Lent.{lent, EdgesLong};
 ghost use Rattle.mapping.specs.Common.{size as size_of};
 ghost use Rattle.mapping.specs.Answers.{mapping_outcome};
 ghost use Rattle.mapping.specs.Check.{finding, EntriesBelow, clash as clash_at, list_by};
 ghost use Rattle.mapping.specs.LentRows.{lent_row};
 
-use super::{MappingAnswer, NewVertex, OldVertex, UNMAPPED};
+use super::{Checked, MappingError, NewVertex, OldVertex, UNMAPPED};
 use graph::MAX_ORDER;
-use problem::{Edges, Orders};
-
-// What the check of one row, or of several, finds.
-#[derive(Clone, Copy)]
-pub enum Finding {
-    Clear,
-    Fault(MappingAnswer),
-}
+use problem::Problem;
 
 // The contracts below name only what a function reads: of the labels, the sets of vertices that agree with each row.
 
-pub fn compare_vertices(agreeing: &[u64; MAX_ORDER], v: OldVertex, w: NewVertex) -> bool
-    requires { v.0 < 64 }
-    ensures { result ≡ member (get_or agreeing.now v.0 0) w.0 }
-{
-    let row = v.0;
-    bitset::has(agreeing[row], w.0)
-}
-
 // The edges of v and v2 in the old graph, and of w and w2 in the new one.
 pub fn compare_edges<'a>(
-    edges: Edges<'a>,
+    problem: Problem<'a>,
     v: OldVertex,
     v2: OldVertex,
     w: NewVertex,
     w2: NewVertex,
 ) -> bool
-    requires { BothLong 4096 edges × (v.0 < 64) × (v2.0 < 64) × (w.0 < 64) × (w2.0 < 64) }
-    ensures { result ≡ compare_edges (lent [] [] edges.entry []) v.0 v2.0 w.0 w2.0 }
+    requires { EdgesLong problem × (v.0 < 64) × (v2.0 < 64) × (w.0 < 64) × (w2.0 < 64) }
+    ensures { result ≡ compare_edges (lent problem.entry) v.0 v2.0 w.0 w2.0 }
 {
-    let old = edges[0];
-    let new = edges[1];
+    let old = problem.old.edges;
+    let new = problem.new.edges;
     let from = v.0;
     let to = v2.0;
     let new_from = w.0;
@@ -51,135 +36,120 @@ pub fn compare_edges<'a>(
     old[MAX_ORDER * from + to] == new[MAX_ORDER * new_from + new_to]
 }
 
-// Row v against the earlier row u.
-pub fn clash<'a>(edges: Edges<'a>, mapping: &[u8], v: OldVertex, u: OldVertex) -> Finding
-    requires both_long { BothLong 4096 edges × (length mapping.now ≤ 64) × (v.0 < length mapping.now) × (u.0 < v.0) }
-    requires v_bound { (get_or mapping.now v.0 0 < 64) × EntriesBelow mapping.now v.0 }
-    ensures { finding result ≡ clash_at (lent [] [] edges.entry []) mapping.now v.0 u.0 }
-{
-    let row = v.0;
-    let earlier = u.0;
-    let image = mapping[row];
-    let other = mapping[earlier];
-    if other == UNMAPPED {
-        return Finding::Clear;
-    }
-    if other == image {
-        return Finding::Fault(MappingAnswer::SameImage(v, u));
-    }
-    let from = other as usize;
-    let to = image as usize;
-    if compare_edges(edges, u, v, NewVertex(from), NewVertex(to)) {
-        return Finding::Clear;
-    }
-    Finding::Fault(MappingAnswer::EdgesDiffer(v, u))
+// A mapping that is checked, beside the problem and the sets of the new vertices whose labels agree with each old one's.
+#[derive(Clone, Copy)]
+pub struct Rows<'a> {
+    pub problem: Problem<'a>,
+    pub agreeing: &'a [u64; MAX_ORDER],
+    pub mapping: &'a [u8],
 }
 
-// Row v against all earlier rows, rising.
-pub fn first_clash<'a>(edges: Edges<'a>, mapping: &[u8], v: OldVertex) -> Finding
-    requires both_long { BothLong 4096 edges × (length mapping.now ≤ 64) × (v.0 < length mapping.now) }
-    requires v_bound { (get_or mapping.now v.0 0 < 64) × EntriesBelow mapping.now v.0 }
-    ensures { finding result ≡ first_below v.0 (clash_at (lent [] [] edges.entry []) mapping.now v.0) }
-{
-    let row = v.0;
-    let mut u = 0;
-    while u < row {
-        match clash(edges, mapping, v, OldVertex(u)) {
-            Finding::Fault(answer) => {
-                return Finding::Fault(answer);
-            }
-            Finding::Clear => {
-                u += 1;
-            }
+impl<'a> Rows<'a> {
+    fn compare_vertices(self, v: OldVertex, w: NewVertex) -> bool
+        requires { v.0 < 64 }
+        ensures { result ≡ member (get_or self.entry.agreeing.now v.0 0) w.0 }
+    {
+        bitset::has(self.agreeing[v.0], w.0)
+    }
+
+    // Row v against the earlier row u.
+    fn clash(self, v: OldVertex, u: OldVertex) -> Result<(), MappingError>
+        requires long { EdgesLong self.problem × (length self.mapping.now ≤ 64) × (v.0 < length self.mapping.now) × (u.0 < v.0) }
+        requires below { (get_or self.mapping.now v.0 0 < 64) × EntriesBelow self.mapping.now v.0 }
+        ensures { finding result ≡ clash_at (lent self.entry.problem) self.entry.mapping.now v.0 u.0 }
+    {
+        let image = self.mapping[v.0];
+        let other = self.mapping[u.0];
+        if other == UNMAPPED {
+            return Ok(());
         }
-    }
-    Finding::Clear
-}
-
-// One row: its own entry and its vertex with itself, then the earlier rows. The rows before it are clear.
-pub fn row_fault<'a>(
-    orders: Orders,
-    agreeing: &[u64; MAX_ORDER],
-    edges: Edges<'a>,
-    mapping: &[u8],
-    v: OldVertex,
-) -> Finding
-    requires both_long { BothLong 4096 edges × (get_or orders 1 0 ≤ 64) }
-    requires mapping_len_bound { (length mapping.now ≤ 64) × (v.0 < length mapping.now) × EntriesBelow mapping.now v.0 }
-    ensures { finding result ≡ lent_row orders agreeing.now edges.entry mapping.now v.0 }
-{
-    let row = v.0;
-    let image = mapping[row];
-    if image == UNMAPPED {
-        return Finding::Clear;
-    }
-    let w = image as usize;
-    if orders[1] <= w {
-        return Finding::Fault(MappingAnswer::NoVertex(v));
-    }
-    if !compare_vertices(agreeing, v, NewVertex(w)) {
-        return Finding::Fault(MappingAnswer::LabelsDisagree(v));
-    }
-    if !compare_edges(edges, v, v, NewVertex(w), NewVertex(w)) {
-        return Finding::Fault(MappingAnswer::EdgesDiffer(v, v));
-    }
-    first_clash(edges, mapping, v)
-}
-
-// All rows, rising.
-pub fn first_fault<'a>(
-    orders: Orders,
-    agreeing: &[u64; MAX_ORDER],
-    edges: Edges<'a>,
-    mapping: &[u8],
-) -> Finding
-    requires { BothLong 4096 edges × (get_or orders 1 0 ≤ 64) × (length mapping.now ≤ 64) }
-    ensures { finding result ≡ first_below (length mapping.now)
-        (lent_row orders agreeing.now edges.entry mapping.now) }
-{
-    let mut v = 0;
-    while v < mapping.len() {
-        match row_fault(orders, agreeing, edges, mapping, OldVertex(v)) {
-            Finding::Fault(answer) => {
-                return Finding::Fault(answer);
-            }
-            Finding::Clear => {
-                v += 1;
-            }
+        if other == image {
+            return Err(MappingError::SameImage(v, u));
         }
+        if !compare_edges(
+            self.problem,
+            u,
+            v,
+            NewVertex(other as usize),
+            NewVertex(image as usize),
+        ) {
+            return Err(MappingError::EdgesDiffer(v, u));
+        }
+        Ok(())
     }
-    Finding::Clear
+
+    // Row v against all earlier rows, rising.
+    fn first_clash(self, v: OldVertex) -> Result<(), MappingError>
+        requires long { EdgesLong self.problem × (length self.mapping.now ≤ 64) × (v.0 < length self.mapping.now) }
+        requires below { (get_or self.mapping.now v.0 0 < 64) × EntriesBelow self.mapping.now v.0 }
+        ensures { finding result ≡ first_below v.0 (clash_at (lent self.entry.problem) self.entry.mapping.now v.0) }
+    {
+        for u in 0..v.0 {
+            self.clash(v, OldVertex(u))?;
+        }
+        Ok(())
+    }
+
+    // One row: its own entry and its vertex with itself, then the earlier rows. The rows before it are clear.
+    fn row_fault(self, v: OldVertex) -> Result<(), MappingError>
+        requires long { EdgesLong self.problem × (self.problem.new.order ≤ 64) }
+        requires below { (length self.mapping.now ≤ 64) × (v.0 < length self.mapping.now) × EntriesBelow self.mapping.now v.0 }
+        ensures { finding result ≡ lent_row self.entry.problem self.entry.agreeing.now self.entry.mapping.now v.0 }
+    {
+        let image = self.mapping[v.0];
+        if image == UNMAPPED {
+            return Ok(());
+        }
+        let w = NewVertex(image as usize);
+        if self.problem.new.order <= w.0 {
+            return Err(MappingError::NoVertex(v));
+        }
+        if !self.compare_vertices(v, w) {
+            return Err(MappingError::LabelsDisagree(v));
+        }
+        if !compare_edges(self.problem, v, v, w, w) {
+            return Err(MappingError::EdgesDiffer(v, v));
+        }
+        self.first_clash(v)
+    }
+
+    // All rows, rising.
+    fn first_fault(self) -> Result<(), MappingError>
+        requires { EdgesLong self.problem × (self.problem.new.order ≤ 64) × (length self.mapping.now ≤ 64) }
+        ensures { finding result ≡ first_below (length self.entry.mapping.now)
+            (lent_row self.entry.problem self.entry.agreeing.now self.entry.mapping.now) }
+    {
+        for v in 0..self.mapping.len() {
+            self.row_fault(OldVertex(v))?;
+        }
+        Ok(())
+    }
 }
 
 // The number of mapped rows.
 pub fn size(mapping: &[u8]) -> usize
     ensures { result ≡ size_of mapping.now }
 {
-    let mut count = 0;
-    for v in 0..mapping.len() {
-        if mapping[v] != UNMAPPED {
-            count += 1;
-        }
-    }
-    count
+    mapping.iter().filter(|entry| **entry != UNMAPPED).count()
 }
 
 // A mapping: its length, then its rows.
 pub fn check_list<'a>(
-    orders: Orders,
-    agreeing: &[u64; MAX_ORDER],
-    edges: Edges<'a>,
-    mapping: &[u8],
-) -> MappingAnswer
-    requires { BothLong 4096 edges × (get_or orders 0 0 ≤ 64) × (get_or orders 1 0 ≤ 64) }
-    ensures { mapping_outcome result ≡ list_by (get_or orders 0 0)
-        (lent_row orders agreeing.now edges.entry mapping.now) mapping.now }
+    problem: Problem<'a>,
+    agreeing: &'a [u64; MAX_ORDER],
+    mapping: &'a [u8],
+) -> Checked
+    requires { EdgesLong problem × (problem.old.order ≤ 64) × (problem.new.order ≤ 64) }
+    ensures { mapping_outcome result ≡ list_by problem.entry.old.order (lent_row problem.entry agreeing.now mapping.now) mapping.now }
 {
-    if mapping.len() != orders[0] {
-        return MappingAnswer::Length;
+    if mapping.len() != problem.old.order {
+        return Err(MappingError::Length);
     }
-    match first_fault(orders, agreeing, edges, mapping) {
-        Finding::Fault(answer) => answer,
-        Finding::Clear => MappingAnswer::Common(size(mapping)),
-    }
+    let rows = Rows {
+        problem,
+        agreeing,
+        mapping,
+    };
+    rows.first_fault()?;
+    Ok(size(mapping))
 }

@@ -16,7 +16,8 @@ use Rattle.substitutes.specs.Substitutes.{listed, agree}
 use Rattle.substitutes.specs.Agreeing.{Agreeing}
 use Rattle.substitutes.proofs.Agreement.{listed_true, none_agree}
 use Rattle.problem.specs.Problem.{Problem, SoundProblem, compare_vertices, compare_edges, allowed, substituting}
-use Rattle.problem.specs.Lent.{Tables, table_at, lent}
+use Rattle.problem.specs.declared.Problem.{Problem as LentProblem}
+use Rattle.problem.specs.Lent.{lent}
 use Rattle.problem.specs.VertexSets.{VertexSets, AllowedSets, Diagonal, MetAll, Allowing}
 
 module _ (P : Problem) where
@@ -61,30 +62,30 @@ module _ (P : Problem) where
         ∙ member_set_of 64 (λ u. ltb u P.new.order && compare_vertices P v u) w few
         ∙ ap (λ (b : Bool). b && compare_vertices P v w) (lt-ltb w P.new.order l)
 
-module _ (labels edges : Tables) {list agreed old new same words : List ℕ} where
+module _ (p : LentProblem) {agreed old new same words : List ℕ} where
   -- The sets by the labels meet those by the diagonals, taken for labels that no list lets differ.
-  pub allowing_made : Agreeing (table_at labels 0) (table_at labels 1) list agreed → Diagonal (table_at edges 0) old → Diagonal (table_at edges 1) new
-      → Agreeing old new [] same → MetAll agreed same words → Allowing labels edges list words
-  allowing_made a o n s m = record { entries = m.entries; word = λ v h. m.word v h ∙ both v h (ltb v (length (table_at labels 0))) refl }
+  pub allowing_made : Agreeing p.old.labels.now p.new.labels.now p.substitutes.now agreed → Diagonal p.old.edges.now old → Diagonal p.new.edges.now new
+      → Agreeing old new [] same → MetAll agreed same words → Allowing p words
+  allowing_made a o n s m = record { entries = m.entries; word = λ v h. m.word v h ∙ both v h (ltb v (length p.old.labels.now)) refl }
     where
-      own : (v w : ℕ) → v < 64 → w < 64 → agree [] (get_or old v 0) (get_or new w 0) ≡ compare_edges (lent [] labels edges list) v v w w
+      own : (v w : ℕ) → v < 64 → w < 64 → agree [] (get_or old v 0) (get_or new w 0) ≡ compare_edges (lent p) v v w w
       own v w h l = none_agree (get_or old v 0) (get_or new w 0) ∙ ap₂ eqb (o.edge v h) (n.edge w l)
 
-      both : (v : ℕ) → v < 64 → (t : Bool) → ltb v (length (table_at labels 0)) ≡ t → meet_of (get_or agreed v 0) (get_or same v 0) ≡ cond t
-          (set_of 64 (λ w. ltb w (length (table_at labels 1))
-          && compare_vertices (lent [] labels edges list) v w && compare_edges (lent [] labels edges list) v v w w)) 0
+      both : (v : ℕ) → v < 64 → (t : Bool) → ltb v (length p.old.labels.now) ≡ t → meet_of (get_or agreed v 0) (get_or same v 0) ≡ cond t
+          (set_of 64 (λ w. ltb w (length p.new.labels.now)
+          && compare_vertices (lent p) v w && compare_edges (lent p) v v w w)) 0
       both v h true e =
           rw (a.word v h, s.word v h, e, lt-ltb v (length old) (omega (arith, o.entries)))
           (meet_of_set_of 64 _ _ (omega arith)
           ∙ set_of_congr 64 _ _ (λ w l. rw (lt-ltb w (length new) (omega (arith, n.entries)), own v w h l) refl))
       both v h false e = rw (a.word v h, e) (meet_empty (get_or same v 0))
 
-module _ (orders : List ℕ) (labels edges : Tables) (list : List ℕ) (s : SoundProblem (lent orders labels edges list)) where
+module _ (p : LentProblem) (s : SoundProblem (lent p)) where
   -- Of a sound problem these are the vertices that an old vertex may lie on.
-  pub allowing_allowed : {words : List ℕ} → Allowing labels edges list words → AllowedSets (lent orders labels edges list) words
+  pub allowing_allowed : {words : List ℕ} → Allowing p words → AllowedSets (lent p) words
   unfolding allowed
   allowing_allowed a =
-      let P = lent orders labels edges list in
+      let P = lent p in
       record {
         entries = a.entries;
         word = λ v h.

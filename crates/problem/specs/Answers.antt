@@ -1,18 +1,18 @@
 -- What each answer about a problem says in the documents' terms (01, "Refusals by place of checking"; 02, U1).
-use Rattle.std.specs.Prelude.{ℕ}
-use Rattle.answers.specs.Answer.{Answer, passed, refused}
+use Rattle.std.specs.Prelude.{Result, ℕ}
+use Rattle.answers.specs.Answer.{Answer, refused, tested}
+use Rattle.graph.specs.Answers.{flaw_number}
+use Rattle.substitutes.specs.Answers.{substitutes_number}
 use Rattle.problem.specs.declared.ProblemFlaw.{ProblemFlaw}
-use Rattle.problem.specs.declared.ProblemFlaw.TheVariants as flaw
-use Rattle.problem.specs.declared.ProblemAnswer.{ProblemAnswer}
-use Rattle.problem.specs.declared.ProblemAnswer.TheVariants as problem
+use Rattle.problem.specs.declared.ProblemFlaw.TheVariants.{Graph, Substitutes}
 
+-- 10, 11 and 12 of a graph, 23 and 24 of the list
 abbrev pub problem_flaw_number : ProblemFlaw → ℕ
-problem_flaw_number flaw.Tables = 10
-problem_flaw_number flaw.Labels = 11
-problem_flaw_number flaw.Edges = 12
-problem_flaw_number flaw.SubstitutesLength = 23
-problem_flaw_number flaw.SubstitutesLabels = 24
+problem_flaw_number (Graph f) = flaw_number f
+problem_flaw_number (Substitutes f) = substitutes_number f
 
-abbrev pub problem_answer_of : ProblemAnswer → Answer
-problem_answer_of problem.Sound = passed
-problem_answer_of (problem.Flawed f) = refused (problem_flaw_number f)
+abbrev pub problem_refusal : ProblemFlaw → Answer
+problem_refusal f = refused (problem_flaw_number f)
+
+abbrev pub problem_answer_of : Result Unit ProblemFlaw → Answer
+problem_answer_of r = tested problem_refusal r

@@ -1,10 +1,11 @@
 -- Sets of new vertices as words, one for each old vertex: those whose labels agree with its own, which the check asks for (02, U1, "Candidates, the list
 -- check and good matching read this rule"), and those that it may lie on (02, U4, "Own links enter the first candidate sets").
-use Rattle.std.specs.Prelude.{◌≡◌, cond, ◌&&◌, List, [], ℕ, ◌<◌, ltb, length, get_or}
+use Rattle.std.specs.Prelude.{◌≡◌, cond, ◌&&◌, List, ℕ, ◌<◌, ltb, length, get_or}
 use Rattle.bitset.specs.Members.{set_of, meet_of}
 use Rattle.graph.specs.Graph.{place}
 use Rattle.problem.specs.Problem.{Problem, compare_vertices, compare_edges, allowed}
-use Rattle.problem.specs.Lent.{Tables, table_at, lent}
+use Rattle.problem.specs.declared.Problem.{Problem as LentProblem}
+use Rattle.problem.specs.Lent.{lent}
 
 pub record VertexSets (P : Problem) (words : List ℕ) : Type 0 where
   pub entries : length words ≡ 64
@@ -26,8 +27,8 @@ pub record MetAll (first second words : List ℕ) : Type 0 where
 
 -- for each of the first 64 places of the old labels, those of the new labels that agree and whose numbers have the same edge with themselves, and nothing
 -- past the last: of any tables; for a sound problem these are the `AllowedSets`
-pub record Allowing (labels edges : Tables) (list words : List ℕ) : Type 0 where
+pub record Allowing (p : LentProblem) (words : List ℕ) : Type 0 where
   pub entries : length words ≡ 64
-  pub word : (v : ℕ) → v < 64 → get_or words v 0 ≡ cond (ltb v (length (table_at labels 0)))
-      (set_of 64 (λ w. ltb w (length (table_at labels 1))
-      && compare_vertices (lent [] labels edges list) v w && compare_edges (lent [] labels edges list) v v w w)) 0
+  pub word : (v : ℕ) → v < 64 → get_or words v 0 ≡ cond (ltb v (length p.old.labels.now))
+      (set_of 64 (λ w. ltb w (length p.new.labels.now)
+      && compare_vertices (lent p) v w && compare_edges (lent p) v v w w)) 0

@@ -1,11 +1,9 @@
 -- The sets of places whose labels agree with a given one's: what candidates read of 02, U1, "Candidates, the list check and good matching read this rule";
 -- and the tables by byte that they are made from, as 02, U6, has labels of two bytes.
-use Rattle.std.specs.Prelude.{◌≡◌, Bool, cond, ◌&&◌, List, ℕ, ◌/◌, ◌%◌, ◌<◌, ltb, eqb, length, get_or}
+use Rattle.std.specs.Prelude.{◌≡◌, Bool, cond, ◌&&◌, List, Option, ℕ, ◌/◌, ◌%◌, ◌<◌, ltb, eqb, length, get_or, unwrap_or}
 use Rattle.bounded.specs.Below.{some_below}
 use Rattle.bitset.specs.Members.{member, set_of, meet_of, union_of}
 use Rattle.bitset.specs.Least.{least_member}
-use Rattle.std.specs.Prelude.{Option}
-use Rattle.std.specs.Prelude.{Some, None}
 use Rattle.substitutes.specs.Substitutes.{pairs, old_label, new_label, agree}
 
 -- the places below 64 of these labels whose label passes a test
@@ -23,8 +21,7 @@ having low high a = meet_of (get_or low (a % 256) 0) (get_or high (a / 256) 0)
 
 -- 64 stands for no place
 abbrev pub place_of : Option ℕ → ℕ
-place_of (Some v) = v
-place_of None = 64
+place_of found = unwrap_or found 64
 
 -- the first place that has label a
 abbrev pub first_having : List ℕ → List ℕ → ℕ → ℕ

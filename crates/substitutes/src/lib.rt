@@ -9,9 +9,11 @@ ghost use Rattle.bounded.specs.Below.{all_below};
 ghost use Rattle.substitutes.specs.Substitutes.{pairs, label_at};
 ghost use Rattle.substitutes.specs.Soundness.{pair_sound, substitutes_answer};
 ghost use Rattle.substitutes.specs.Agreeing.{Agreeing};
-ghost use Rattle.substitutes.specs.Answers.{substitutes_answer_of};
+ghost use Rattle.substitutes.specs.Answers.{substitutes_refusal, substitutes_answer_of};
 
+use answers::Refusal;
 use graph::{Label, MAX_ORDER};
+use sets::LabelPlaces;
 
 // The bytes of a pair: two of the old label, then two of the new.
 pub const PAIR_BYTES: usize = 4;
@@ -19,12 +21,26 @@ pub const PAIR_BYTES: usize = 4;
 // The greatest length of a list, in bytes.
 pub const MAX_BYTES: usize = 1024;
 
-// The answer of `check_substitutes`.
-#[derive(Clone, Copy)]
-pub enum SubstitutesAnswer {
-    Sound,
+// Why a list is not sound.
+#[derive(Clone, Copy, Debug, PartialEq, Eq)]
+pub enum SubstitutesFlaw {
     Length,
     Labels,
+}
+
+impl Refusal for SubstitutesFlaw {
+    ghost says = { substitutes_refusal };
+
+    fn number(self) -> u8 {
+        match self {
+            SubstitutesFlaw::Length => 23,
+            SubstitutesFlaw::Labels => 24,
+        }
+    }
+
+    fn place(self) -> usize {
+        0
+    }
 }
 
 // The label whose low byte is at `at`, before its high byte.
@@ -41,10 +57,7 @@ fn labels_sound(list: &[u8]) -> bool
 {
     let count = list.len() / PAIR_BYTES;
     for k in 0..count {
-        if label_at(list, PAIR_BYTES * k) == 0 {
-            return false;
-        }
-        if label_at(list, PAIR_BYTES * k + 2) == 0 {
+        if label_at(list, PAIR_BYTES * k) == 0 || label_at(list, PAIR_BYTES * k + 2) == 0 {
             return false;
         }
     }
@@ -52,33 +65,28 @@ fn labels_sound(list: &[u8]) -> bool
 }
 
 // Whether the list is sound: its length comes first.
-pub fn check_substitutes(list: &[u8]) -> SubstitutesAnswer
+pub fn check_substitutes(list: &[u8]) -> Result<(), SubstitutesFlaw>
     ensures { substitutes_answer_of result ≡ substitutes_answer list.now }
 {
-    if list.len() % PAIR_BYTES != 0 {
-        return SubstitutesAnswer::Length;
-    }
-    if MAX_BYTES < list.len() {
-        return SubstitutesAnswer::Length;
+    if list.len() % PAIR_BYTES != 0 || MAX_BYTES < list.len() {
+        return Err(SubstitutesFlaw::Length);
     }
     if !labels_sound(list) {
-        return SubstitutesAnswer::Labels;
+        return Err(SubstitutesFlaw::Labels);
     }
-    SubstitutesAnswer::Sound
+    Ok(())
 }
 
 // For each of the first 64 places of `old`, the set of those of `new` whose labels agree with its own. The list is gone through once.
 pub fn agreeing(old: &[Label], new: &[Label], list: &[u8]) -> [u64; MAX_ORDER]
     ensures { Agreeing old.now new.now list.now result }
 {
-    let new_low = sets::places(new, 1);
-    let new_high = sets::places(new, 256);
-    let equal = sets::equal(old, &new_low, &new_high);
+    let new_places = LabelPlaces::of(new);
+    let equal = new_places.equal(old);
     if list.len() < PAIR_BYTES {
         return equal;
     }
-    let old_low = sets::places(old, 1);
-    let old_high = sets::places(old, 256);
-    let joined = sets::joined(list, &old_low, &old_high, &new_low, &new_high);
-    sets::spread(old, &old_low, &old_high, &joined, equal)
+    let old_places = LabelPlaces::of(old);
+    let joined = sets::joined(list, &old_places, &new_places);
+    old_places.spread(old, &joined, equal)
 }

@@ -1,6 +1,6 @@
 -- `connected::neighbours` meets its contract: the vertices passed have their words.
 -- Assumes nothing.
-use Prim.Native.Nat.{◌-◌, ◌≤◌}
+use Prim.Native.Nat.{◌≤◌}
 use lib.ListN.{replicate}
 use Rattle.bounded.proofs.Settled.{SettledTo}
 use Rattle.connected.specs.Spreading.{neighbours}
@@ -8,6 +8,3 @@ use Rattle.connected.proofs.neighbours.Given as goal
 
 abbrev pub invariant-loop-v : goal.invariant-loop-v
 invariant-loop-v l = (l.v ≤ 64) × SettledTo (neighbours l.edges) (replicate 64 0) l.v l.words
-
-abbrev pub decreases-loop-v : goal.decreases-loop-v
-decreases-loop-v l = 64 - l.v

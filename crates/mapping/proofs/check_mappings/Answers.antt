@@ -1,7 +1,8 @@
 -- `mapping::check_mappings` meets its contract: where the graphs and the list pass, each mapping is checked. Assumes nothing.
 use mathlib.Core.Path.{◌≡◌, ap, ap₂, sym, ◌∙◌}
+use Rattle.std.proofs.lemmas.Result.{err_from_is_err_and}
 use Rattle.answers.specs.Answer.{passed}
-use Rattle.problem.specs.Problem.{Problem, SoundProblem, problem_answer}
+use Rattle.problem.specs.Problem.{SoundProblem, problem_answer}
 use Rattle.problem.specs.Lent.{lent}
 use Rattle.problem.specs.Answers.{problem_answer_of}
 use Rattle.problem.proofs.ProblemPasses.{passes_problem}
@@ -9,34 +10,30 @@ use Rattle.mapping.specs.Answers.{checked}
 use Rattle.mapping.specs.Check.{both_outcomes}
 use Rattle.mapping.proofs.LentRows.{lent_fits, lent_list}
 use Rattle.mapping.proofs.check_mappings.Goals as goal
-use Rattle.mapping.proofs.check_mappings.Goals.{In-Sound}
+use Rattle.mapping.proofs.check_mappings.Goals.{In_ok-check}
 
--- the problem that is asked about
-abbrev asked : In-Sound → Problem
-asked c = let a = c.args in lent a.orders a.labels a.edges a.substitutes.now
+-- where `check` says `Ok`, the two graphs and the list pass
+told_passed : (c : In_ok-check) → problem_answer (lent c.args.problem) ≡ passed
+told_passed c = sym c.check.ensures ∙ ap problem_answer_of c.in_ok-check.was
 
--- where `check_problem` says `Sound`, the two graphs and the list pass
-told_passed : (c : In-Sound) → problem_answer (asked c) ≡ passed
-told_passed c = sym c.check_problem.ensures ∙ ap problem_answer_of c.in-Sound.is
-
-told_sound : (c : In-Sound) → SoundProblem (asked c)
-told_sound c = passes_problem (asked c) (told_passed c)
+told_sound : (c : In_ok-check) → SoundProblem (lent c.args.problem)
+told_sound c = passes_problem (lent c.args.problem) (told_passed c)
 
 pub check_list-requires : goal.check_list-requires
-check_list-requires c = lent_fits (asked (goal.at.check_list-requires c).In-Sound) (told_sound (goal.at.check_list-requires c).In-Sound)
+check_list-requires c = lent_fits (lent c.args.problem) (told_sound (goal.at.check_list-requires c).In_ok-check)
 
-pub check_list-requires-in-Sound : goal.check_list-requires-in-Sound
-check_list-requires-in-Sound c = lent_fits (asked (goal.at.check_list-requires-in-Sound c).In-Sound) (told_sound (goal.at.check_list-requires-in-Sound c).In-Sound)
+pub check_list-requires-2 : goal.check_list-requires-2
+check_list-requires-2 c = lent_fits (lent c.args.problem) (told_sound (goal.at.check_list-requires-2 c).In_ok-check)
 
-pub returns-in-Flawed : goal.returns-in-Flawed
+pub returns-in_err-check : goal.returns-in_err-check
 unfolding both_outcomes
-returns-in-Flawed c =
-    simp (sym c.check_problem.ensures ∙ ap problem_answer_of c.in-Flawed.is)
+returns-in_err-check c =
+    let told = err_from_is_err_and c.from_residual.result c.from_residual.ensures.1 in
+    rw (told.1, told.2) (simp (sym c.check.ensures ∙ ap problem_answer_of c.in_err-check.was))
 
-pub returns-in-Sound : goal.returns-in-Sound
+pub returns : goal.returns
 unfolding both_outcomes
-returns-in-Sound c =
-    let a = c.args in
-    let whole = lent_list a.orders a.labels a.edges a.substitutes.now (told_sound (goal.at.returns-in-Sound c).In-Sound) c.agreeing-agreeing.ensures in
-    ap₂ checked (c.check_list.ensures ∙ whole a.first.now) (c.check_list-in-Sound.ensures ∙ whole a.second.now)
-    ∙ simp (told_passed (goal.at.returns-in-Sound c).In-Sound)
+returns c =
+    let whole = lent_list c.args.problem (told_sound (goal.at.returns c).In_ok-check) c.agreeing-agreeing.ensures in
+    ap₂ checked (c.check_list.ensures ∙ whole c.args.first.now) (c.check_list-2.ensures ∙ whole c.args.second.now)
+    ∙ simp (told_passed (goal.at.returns c).In_ok-check)

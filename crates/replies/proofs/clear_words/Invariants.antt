@@ -7,6 +7,3 @@ use Rattle.replies.proofs.clear_words.Given as goal
 
 abbrev pub invariant-loop-i : goal.invariant-loop-i
 invariant-loop-i l = (l.i ≤ l.used) × (length l.workspace ≡ length l.initial.workspace) × (l.workspace ≡ replicate l.i 0 ++ drop l.i l.initial.workspace)
-
-abbrev pub decreases-loop-i : goal.decreases-loop-i
-decreases-loop-i l = l.used - l.i

@@ -1,12 +1,8 @@
 -- `substitutes::labels_sound` meets its contract: the pairs tested so far have passed.
 -- Assumes nothing.
-use Prim.Native.Nat.{◌-◌}
 use Rattle.bounded.proofs.AllBelow.{PassedTo}
 use Rattle.substitutes.specs.Soundness.{pair_sound}
 use Rattle.substitutes.proofs.labels_sound.Given as goal
 
 abbrev pub invariant-loop-k : goal.invariant-loop-k
 invariant-loop-k l = PassedTo l.count (pair_sound l.list) l.k
-
-abbrev pub decreases-loop-k : goal.decreases-loop-k
-decreases-loop-k l = l.count - l.k

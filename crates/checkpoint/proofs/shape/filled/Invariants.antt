@@ -7,6 +7,3 @@ use Rattle.checkpoint.proofs.shape.filled.Given as goal
 
 abbrev pub invariant-loop-i : goal.invariant-loop-i
 invariant-loop-i l = (l.depth ≤ l.i) × (l.i - l.depth ≤ 64 - l.depth) × (l.entries ≡ filled_until l.initial.entries l.depth l.i)
-
-abbrev pub decreases-loop-i : goal.decreases-loop-i
-decreases-loop-i l = 64 - l.i

@@ -7,6 +7,3 @@ use Rattle.clique.proofs.candidates.edges_fit.Given as goal
 
 abbrev pub invariant-loop-i : goal.invariant-loop-i
 invariant-loop-i l = PassedTo l.row.0 (edge_fits l.edges l.path l.row.0 l.vertex.0) l.i
-
-abbrev pub decreases-loop-i : goal.decreases-loop-i
-decreases-loop-i l = l.row.0 - l.i

@@ -15,6 +15,3 @@ taken_before path k = set_of 64 (λ v. some_below k (λ i. eqb v (get_or path i 
 
 abbrev pub invariant-loop-i : goal.invariant-loop-i
 invariant-loop-i l = (l.set ≡ taken_before l.path l.i) × (l.i ≤ l.depth)
-
-abbrev pub decreases-loop-i : goal.decreases-loop-i
-decreases-loop-i l = l.depth - l.i

@@ -1,81 +1,74 @@
 use Prim.Native.Nat.{◌+◌}
 use native.Mathlib.Omega.{arith}
-use lib.ListN.{length, drop}
+use Rattle.std.specs.Prelude.{Option, Some, None, Result, Ok, Err, ℕ, List}
+use denote.Ref.{Bor}
+use Rattle.graph_reader.specs.declared.Fault.{Fault}
+use lib.ListN.{drop}
 use mathlib.Core.Path.{◌≡◌, sym, ap, ◌∙◌}
 use Rattle.graph.specs.Graph.{Graph, graph}
-use Rattle.graph_reader.specs.declared.commands.Step.{Step}
-use Rattle.graph_reader.specs.declared.commands.Step.TheVariants.{Grown, Ended, Faulty}
 use Rattle.graph_reader.specs.Commands.{decode}
 use Rattle.graph_reader.specs.Reading.{judge, verdict_of, finish}
 use Rattle.graph_reader.proofs.ReadLoop.{head_first, head_more, more_fits, falls, end_reads, end_fits, end_keeps, fault_reads}
 use Rattle.graph_reader.proofs.reader.read_commands.Goals as goal
 use Rattle.graph_reader.proofs.reader.read_commands.Goals.{After-apply}
 
-pub loop-next-init : goal.loop-next-init
-loop-next-init c =
-    rw c.opening_width-at.ensures (head_first _ _ _ _ _ c.requires.2 c.requires.0 c.requires.1)
+pub loop-grown-init : goal.loop-grown-init
+loop-grown-init c =
+    record {
+      same_bytes = ap (λ (b : Bor (List ℕ)). b.now) c.new-reader.ensures.0;
+      same_edition = c.new-reader.ensures.2;
+      head = rw (c.new-reader.ensures.1, c.opening_width.ensures) (head_first _ _ _ _ _ c.requires.2 c.requires.0 c.requires.1);
+    }
 
 -- the decoded command is the one at the front of the bytes from the place on
 told : (c : After-apply)
-    → c.next_command-command.result ≡ decode c.args.from (drop c.loop-next.at c.args.bytes.now)
-told c = c.next_command-command.ensures
+    → c.next-command.result ≡ decode c.args.from (drop c.loop-grown.reader.at c.args.bytes.now)
+told c = c.next-command.ensures ∙ rw (c.loop-grown.invariant.same_bytes, c.loop-grown.invariant.same_edition)
 
 -- what the loop's head knew, and how the command was judged
-turn : (c : After-apply) (s : Step) → c.apply.result ≡ s → verdict_of s c.apply.new.labels c.apply.new.edges ≡ judge c.args.to (graph c.loop-next.order c.loop-next.labels c.loop-next.edges) c.next_command-command.result
-turn c s e = ap (λ (x : Step). verdict_of x c.apply.new.labels c.apply.new.edges) (sym e) ∙ c.apply.ensures.verdict
+turn : (c : After-apply) (s : Result (Option ℕ) Fault) → c.apply.result ≡ s → verdict_of s c.apply.new.labels c.apply.new.edges ≡ judge c.args.to (graph c.loop-grown.order c.loop-grown.labels c.loop-grown.edges) c.next-command.result
+turn c s e = ap (λ (x : Result (Option ℕ) Fault). verdict_of x c.apply.new.labels c.apply.new.edges) (sym e) ∙ c.apply.ensures.verdict
 
-pub next_place-at-requires : goal.next_place-at-requires
-next_place-at-requires c =
-    let made = turn (goal.at.next_place-at-requires c).After-apply (Grown c.in-Grown.next) c.in-Grown.is in
-    omega (arith, (more_fits _ _ _ _ _ _ _ c.loop-next.invariant _ (told (goal.at.next_place-at-requires c).After-apply) _ _ _ made).1)
+pub moved-reader-requires : goal.moved-reader-requires
+moved-reader-requires c =
+    let made = turn (goal.at.moved-reader-requires c).After-apply (Ok (Some c.in-Ok-Some.grown)) (c.in-Ok-Some.is ∙ ap Ok c.in-Ok-Some.field-0-is) in
+    rw c.loop-grown.invariant.same_edition (omega (arith, (more_fits _ _ _ _ _ _ _ c.loop-grown.invariant.head _ (told (goal.at.moved-reader-requires c).After-apply) _ _ _ made).1))
 
-pub loop-next-smaller : goal.loop-next-smaller
-loop-next-smaller c =
-    let made = turn (goal.at.loop-next-smaller c).After-apply (Grown c.in-Grown.next) c.in-Grown.is in
-    rw c.next_place-at.ensures (falls _ _ _ _ _ _ _ c.loop-next.invariant _ (told (goal.at.loop-next-smaller c).After-apply) _ _ _ made)
+pub loop-grown-smaller : goal.loop-grown-smaller
+loop-grown-smaller c =
+    let made = turn (goal.at.loop-grown-smaller c).After-apply (Ok (Some c.in-Ok-Some.grown)) (c.in-Ok-Some.is ∙ ap Ok c.in-Ok-Some.field-0-is) in
+    rw (c.moved-reader.ensures.1, c.loop-grown.invariant.same_edition) (falls _ _ _ _ _ _ _ c.loop-grown.invariant.head _ (told (goal.at.loop-grown-smaller c).After-apply) _ _ _ made)
 
-pub loop-next-preserved : goal.loop-next-preserved
-loop-next-preserved c =
-    let made = turn (goal.at.loop-next-preserved c).After-apply (Grown c.in-Grown.next) c.in-Grown.is in
-    rw c.next_place-at.ensures (head_more _ _ _ _ _ _ _ c.loop-next.invariant _ (told (goal.at.loop-next-preserved c).After-apply) _ _ _ made c.apply.auto.labels c.apply.auto.edges)
+pub loop-grown-preserved : goal.loop-grown-preserved
+loop-grown-preserved c =
+    let made = turn (goal.at.loop-grown-preserved c).After-apply (Ok (Some c.in-Ok-Some.grown)) (c.in-Ok-Some.is ∙ ap Ok c.in-Ok-Some.field-0-is) in
+    record {
+      same_bytes = ap (λ (b : Bor (List ℕ)). b.now) c.moved-reader.ensures.0 ∙ c.loop-grown.invariant.same_bytes;
+      same_edition = c.moved-reader.ensures.2 ∙ c.loop-grown.invariant.same_edition;
+      head = rw (c.moved-reader.ensures.1, c.loop-grown.invariant.same_edition) (head_more _ _ _ _ _ _ _ c.loop-grown.invariant.head _ (told (goal.at.loop-grown-preserved c).After-apply) _ _ _ made c.apply.auto.labels c.apply.auto.edges);
+    }
 
-pub overflow_add-at : goal.overflow_add-at
-overflow_add-at c =
-    let made = turn (goal.at.overflow_add-at c).After-apply Ended c.in-Ended.is in
-    omega (arith, end_fits _ _ _ _ _ _ _ c.loop-next.invariant _ (told (goal.at.overflow_add-at c).After-apply) c.apply.new.labels c.apply.new.edges made)
+pub overflow_add-reader : goal.overflow_add-reader
+overflow_add-reader c =
+    let made = turn (goal.at.overflow_add-reader c).After-apply (Ok None) (c.in-Ok-None.is ∙ ap Ok c.in-Ok-None.field-0-is) in
+    omega (arith, end_fits _ _ _ _ _ _ _ c.loop-grown.invariant.head _ (told (goal.at.overflow_add-reader c).After-apply) c.apply.new.labels c.apply.new.edges made)
 
 pub finish-requires : goal.finish-requires
 finish-requires c =
-    let made = turn (goal.at.finish-requires c).After-apply Ended c.in-Ended.is in
-    (c.apply.auto.labels ∙ c.loop-next.invariant.labels_length, c.apply.auto.edges ∙ c.loop-next.invariant.edges_length, end_fits _ _ _ _ _ _ _ c.loop-next.invariant _ (told (goal.at.finish-requires c).After-apply) c.apply.new.labels c.apply.new.edges made)
+    let made = turn (goal.at.finish-requires c).After-apply (Ok None) (c.in-Ok-None.is ∙ ap Ok c.in-Ok-None.field-0-is) in
+    (c.apply.auto.labels ∙ c.loop-grown.invariant.head.labels_length, c.apply.auto.edges ∙ c.loop-grown.invariant.head.edges_length, end_fits _ _ _ _ _ _ _ c.loop-grown.invariant.head _ (told (goal.at.finish-requires c).After-apply) c.apply.new.labels c.apply.new.edges made)
 
-pub shape_of-labels-in-Ended : goal.shape_of-labels-in-Ended
-shape_of-labels-in-Ended c =
-    c.finish.auto.labels ∙ c.apply.auto.labels ∙ c.loop-next.invariant.labels_length ∙ sym (ap length c.requires.0)
-
-pub shape_of-edges-in-Ended : goal.shape_of-edges-in-Ended
-shape_of-edges-in-Ended c =
-    c.finish.auto.edges ∙ c.apply.auto.edges ∙ c.loop-next.invariant.edges_length ∙ sym (ap length c.requires.1)
-
-pub returns-in-Ended : goal.returns-in-Ended
-returns-in-Ended c =
-    let made = turn (goal.at.returns-in-Ended c).After-apply Ended c.in-Ended.is in
-    let at = c.loop-next.at in
+pub returns-in-Ok-None : goal.returns-in-Ok-None
+returns-in-Ok-None c =
+    let made = turn (goal.at.returns-in-Ok-None c).After-apply (Ok None) (c.in-Ok-None.is ∙ ap Ok c.in-Ok-None.field-0-is) in
+    let at = c.loop-grown.reader.at in
     let bytes = c.args.bytes.now in
     c.finish.ensures
-    ∙ ap (λ (g : Graph). finish g (at + 1) (drop (at + 1) bytes)) (end_keeps _ _ _ _ _ _ _ c.loop-next.invariant _ (told (goal.at.returns-in-Ended c).After-apply) c.apply.new.labels c.apply.new.edges made c.apply.ensures.labels_after c.apply.ensures.edges_after)
-    ∙ sym (end_reads _ _ _ _ _ _ _ c.loop-next.invariant _ (told (goal.at.returns-in-Ended c).After-apply) c.apply.new.labels c.apply.new.edges made)
+    ∙ ap (λ (g : Graph). finish g (at + 1) (drop (at + 1) bytes)) (end_keeps _ _ _ _ _ _ _ c.loop-grown.invariant.head _ (told (goal.at.returns-in-Ok-None c).After-apply) c.apply.new.labels c.apply.new.edges made c.apply.ensures.labels_after c.apply.ensures.edges_after)
+    ∙ sym (end_reads _ _ _ _ _ _ _ c.loop-grown.invariant.head _ (told (goal.at.returns-in-Ok-None c).After-apply) c.apply.new.labels c.apply.new.edges made)
 
-pub shape_of-labels-in-Faulty : goal.shape_of-labels-in-Faulty
-shape_of-labels-in-Faulty c =
-    c.refuse.auto.labels ∙ c.apply.auto.labels ∙ c.loop-next.invariant.labels_length ∙ sym (ap length c.requires.0)
-
-pub shape_of-edges-in-Faulty : goal.shape_of-edges-in-Faulty
-shape_of-edges-in-Faulty c =
-    c.refuse.auto.edges ∙ c.apply.auto.edges ∙ c.loop-next.invariant.edges_length ∙ sym (ap length c.requires.1)
-
-pub returns-in-Faulty : goal.returns-in-Faulty
-returns-in-Faulty c =
-    let fault = c.in-Faulty.fault in
-    let made = turn (goal.at.returns-in-Faulty c).After-apply (Faulty fault) c.in-Faulty.is in
-    c.refuse.ensures ∙ sym (fault_reads _ _ _ _ _ _ _ c.loop-next.invariant _ (told (goal.at.returns-in-Faulty c).After-apply) c.apply.new.labels c.apply.new.edges fault made)
+pub returns-in-Err : goal.returns-in-Err
+returns-in-Err c =
+    let fault = c.in-Err.fault in
+    let made = turn (goal.at.returns-in-Err c).After-apply (Err fault) c.in-Err.is in
+    c.refuse.ensures ∙ sym (fault_reads _ _ _ _ _ _ _ c.loop-grown.invariant.head _ (told (goal.at.returns-in-Err c).After-apply) c.apply.new.labels c.apply.new.edges fault made)

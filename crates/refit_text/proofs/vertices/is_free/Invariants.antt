@@ -8,6 +8,3 @@ use Rattle.refit_text.proofs.vertices.is_free.Given as goal
 
 abbrev pub invariant-loop-v : goal.invariant-loop-v
 invariant-loop-v l = PassedTo (length l.mapping) (λ k. not (eqb (get_or l.mapping k 0) l.w.0)) l.v
-
-abbrev pub decreases-loop-v : goal.decreases-loop-v
-decreases-loop-v l = length l.mapping - l.v

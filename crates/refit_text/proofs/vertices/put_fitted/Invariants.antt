@@ -6,6 +6,3 @@ use Rattle.refit_text.proofs.vertices.put_fitted.Given as goal
 
 abbrev pub invariant-loop-w : goal.invariant-loop-w
 invariant-loop-w l = PutTo l.new_order (fit_text l.mapping) l.start l.initial.out l.w l.at l.out
-
-abbrev pub decreases-loop-w : goal.decreases-loop-w
-decreases-loop-w l = l.new_order - l.w

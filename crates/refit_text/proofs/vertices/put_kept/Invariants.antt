@@ -7,6 +7,3 @@ use Rattle.refit_text.proofs.vertices.put_kept.Given as goal
 
 abbrev pub invariant-loop-v : goal.invariant-loop-v
 invariant-loop-v l = PutTo (length l.mapping) (keep_text l.mapping) l.start l.initial.out l.v l.at l.out
-
-abbrev pub decreases-loop-v : goal.decreases-loop-v
-decreases-loop-v l = length l.mapping - l.v

@@ -1,6 +1,6 @@
 -- `substitutes::sets::joined` meets its contract: the pairs passed have put the places of their new labels.
 -- Assumes nothing.
-use Prim.Native.Nat.{◌-◌, ◌≤◌}
+use Prim.Native.Nat.{◌≤◌}
 use Rattle.bitset.specs.Members.{member}
 use Rattle.substitutes.specs.Substitutes.{old_label, new_label}
 use Rattle.substitutes.specs.Agreeing.{having, first_having}
@@ -9,7 +9,4 @@ use Rattle.substitutes.proofs.sets.joined.Given as goal
 
 abbrev pub invariant-loop-k : goal.invariant-loop-k
 invariant-loop-k l =
-    (l.k ≤ l.count) × FilledTo 65 (λ j. first_having l.old_low l.old_high (old_label l.list j)) (λ j i. member (having l.new_low l.new_high (new_label l.list j)) i) l.k l.sets
-
-abbrev pub decreases-loop-k : goal.decreases-loop-k
-decreases-loop-k l = l.count - l.k
+    (l.k ≤ l.count) × FilledTo 65 (λ j. first_having l.old_places.low l.old_places.high (old_label l.list j)) (λ j i. member (having l.new_places.low l.new_places.high (new_label l.list j)) i) l.k l.sets
