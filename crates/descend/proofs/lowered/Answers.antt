@@ -37,4 +37,4 @@ returns-then-minimum-mapping_size c =
 pub returns : goal.returns
 returns c =
     let a = c.args in
-    c.smaller.ensures ∙ sym (lowered_min a.checkpoint.minimum (state_of a.order a.checkpoint).incumbent a.top (few (goal.at.returns c).Joined-holds))
+    c.min.ensures ∙ sym (lowered_min a.checkpoint.minimum (state_of a.order a.checkpoint).incumbent a.top (few (goal.at.returns c).Joined-holds))
