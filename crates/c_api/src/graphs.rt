@@ -12,6 +12,7 @@ use graph::{EDGE_BYTES, Graph, Label, MAX_ORDER};
 use graph_reader::ReadError;
 use problem::Problem;
 
+#[derive(Drop)]
 pub struct Graphs {
     pub old_labels: [Label; MAX_ORDER],
     pub old_edges: [u8; EDGE_BYTES],

@@ -1,8 +1,8 @@
 -- `c_api::golfcedar_descend_start` meets its contract: the graphs are read, and the start's checkpoint is saved (`ReadArms`). Assumes nothing.
 use mathlib.Core.Path.{ap, ◌∙◌}
 use Rattle.problem.specs.Problem.{Problem}
-use Rattle.replies.specs.declared.Reply.{Reply}
 use Rattle.descent_replies.specs.DescentReply.{save_start}
+use Rattle.c_api.specs.Calls.{asked}
 use Rattle.c_api.proofs.ReadArms.{descend_start_refused, descend_start_read}
 use Rattle.c_api.proofs.GraphsRead.{graphs_refused, graphs_read}
 use Rattle.c_api.proofs.golfcedar_descend_start.Goals as goal
@@ -16,4 +16,4 @@ returns-in-Ok c =
     descend_start_read _ _ _ _ _ _
     _ (graphs_read _ _ c.empty-graphs.ensures c.read.result c.read.ensures _ _ c.in-Ok.is)
     _ c.start.result _ (c.tell-in-Ok.ensures ∙ c.of-reply.ensures)
-    (c.start.ensures ∙ ap (λ (P : Problem). save_start ? P a.floor a.checkpoint.now) c.problem-problem.ensures)
+    (c.start.ensures ∙ ap (λ (P : Problem). save_start (asked a.connected) P a.floor a.checkpoint.now) c.problem-problem.ensures)

@@ -1,8 +1,8 @@
 -- `c_api::golfcedar_start` meets its contract: the graphs are read, and a fresh checkpoint is saved (`ReadArms`). Assumes nothing.
 use mathlib.Core.Path.{ap, ◌∙◌}
 use Rattle.problem.specs.Problem.{Problem}
-use Rattle.replies.specs.declared.Reply.{Reply}
 use Rattle.checkpoint_saver.specs.Saving.{saving}
+use Rattle.c_api.specs.Calls.{asked}
 use Rattle.c_api.proofs.ReadArms.{start_refused, start_read}
 use Rattle.c_api.proofs.GraphsRead.{graphs_refused, graphs_read}
 use Rattle.c_api.proofs.golfcedar_start.Goals as goal
@@ -16,4 +16,4 @@ returns-in-Ok c =
     start_read _ _ _ _ _ _
     _ (graphs_read _ _ c.empty-graphs.ensures c.read.result c.read.ensures _ _ c.in-Ok.is)
     _ c.save_checkpoint.result _ _ (c.tell-in-Ok.ensures ∙ c.of-reply.ensures)
-    (c.save_checkpoint.ensures ∙ ap (λ (P : Problem). saving ? P c.fresh-fresh.result a.checkpoint.now) c.problem-problem.ensures) c.fresh-fresh.ensures
+    (c.save_checkpoint.ensures ∙ ap (λ (P : Problem). saving (asked a.connected) P c.fresh-fresh.result a.checkpoint.now) c.problem-problem.ensures) c.fresh-fresh.ensures
