@@ -1,14 +1,13 @@
 // The steps of the refit program between reading and writing.
 
-ghost use Rattle.problem.specs.Lent.{lent};
 ghost use Rattle.std.specs.Prelude.{◌≡◌};
+ghost use Rattle.problem.specs.Lent.{lent};
 ghost use Rattle.search.specs.Answers.{search_answer};
 ghost use Rattle.text.specs.Writes.{Writes};
 ghost use Rattle.refit_text.specs.Report.{report_text};
 ghost use Rattle.refit_text.specs.Program.{search_text, graphs_text};
 
 use super::report;
-use answers::Refusal;
 use graph::{EDGE_BYTES, Graph, Label, MAX_ORDER};
 use problem::Problem;
 use search::{Searched, WORDS};

@@ -1,6 +1,6 @@
 // The lines of a search call's answer.
 
-ghost use Rattle.std.specs.Prelude.{◌≤◌, take};
+ghost use Rattle.std.specs.Prelude.{◌≤◌};
 ghost use Rattle.answers.specs.Answer.{refusal_number};
 ghost use Rattle.search.specs.Answers.{search_answer};
 ghost use Rattle.text.specs.Writes.{Writes};

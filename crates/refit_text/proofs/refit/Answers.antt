@@ -16,13 +16,24 @@ use Rattle.refit_text.proofs.RefitLength.{refit_put}
 use Rattle.refit_text.proofs.refit.Goals as goal
 use Rattle.refit_text.proofs.refit.Goals.{then-input-eq9, else-input-eq9}
 
+-- the budget is the number of the bytes after the first
+budget : (input : List ℕ) → from_little (take 8 (take (length input - 1) (drop 1 input))) ≡ budget_of input
+budget input = ap (λ (l : List ℕ). from_little (take 8 l)) (take_all _ (drop 1 input) (le_of_eq (length-drop 1 input)))
+
 pub returns : goal.returns
 unfolding refit_text
 returns c =
     let a = c.args in
-    let n = c.new-writer in
+    let old = a.old_bytes.now in
+    let new = a.new_bytes.now in
     let input = a.input.now in
-    let text = refit_text a.old_bytes.now a.new_bytes.now input in
-    let budget : from_little (take 8 (take (length input - 1) (drop 1 input))) ≡ budget_of input = ap (λ (l : List ℕ). from_little (take 8 l)) (take_all _ (drop 1 input) (le_of_eq (length-drop 1 input))) in
-    let put : Writes text n.result c.if-input-eq9.writer = elim c.if-input-eq9.branch [ then-input-eq9 x ↦ rw x.writer-is (writes_same (rw (eq-eqb (length input) 9 x.if-input-eq9.true) (ap (graphs_text a.old_bytes.now a.new_bytes.now (minimum_of input)) (x.load-budget.ensures ∙ budget))) x.put_graphs.ensures) | else-input-eq9 x ↦ rw x.writer-is (writes_same (rw (ne_eqb (length input) 9 x.if-input-eq9.false)) x.put.ensures) ] in
-    refit_put a.old_bytes.now a.new_bytes.now input (λ i. omega (arith, c.type_inv.input i)) (writes_front put n.ensures.front n.ensures.unchanged c.written.ensures) (search rules)
+    let begun = c.new-writer in
+    let put : Writes (refit_text old new input) begun.result c.if-input-eq9.writer =
+    elim c.if-input-eq9.branch [
+      | then-input-eq9 x ↦
+          let text = ap (graphs_text old new (minimum_of input)) (x.load-budget.ensures ∙ budget input) in
+          rw x.writer-is (writes_same (rw (eq-eqb (length input) 9 x.if-input-eq9.true) text) x.put_graphs.ensures)
+      | else-input-eq9 x ↦ rw x.writer-is (writes_same (rw (ne_eqb (length input) 9 x.if-input-eq9.false)) x.put.ensures)
+    ] in
+    refit_put old new input (λ i. omega (arith, c.type_inv.input i))
+    (writes_front put begun.ensures.front begun.ensures.unchanged c.written.ensures) (search rules)

@@ -12,7 +12,10 @@ loop-w-preserved c =
     let sofar = c.loop-w.invariant in
     let h = c.loop-w-test.true in
     let told = sym c.is_free.ensures in
-    elim c.if-is_free.branch [ then-is_free x ↦ rw x.writer-is (line_more sofar h (line_there _ _ _ (told ∙ x.if-is_free.true)) x.put_number_line.ensures) | else-is_free x ↦ rw x.writer-is (line_none sofar h (line_else _ _ _ (told ∙ x.if-is_free.false))) ]
+    elim c.if-is_free.branch [
+      | then-is_free x ↦ rw x.writer-is (line_more sofar h (line_there _ _ _ (told ∙ x.if-is_free.true)) x.put_number_line.ensures)
+      | else-is_free x ↦ rw x.writer-is (line_none sofar h (line_else _ _ _ (told ∙ x.if-is_free.false)))
+    ]
 
 pub returns : goal.returns
 unfolding fit_lines

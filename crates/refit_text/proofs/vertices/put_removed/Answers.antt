@@ -11,7 +11,10 @@ pub loop-v-preserved : goal.loop-v-preserved
 loop-v-preserved c =
     let sofar = c.loop-v.invariant in
     let h = c.loop-v-test.true in
-    elim c.if-image.branch [ then-image x ↦ rw x.writer-is (line_more sofar h (line_there _ _ _ (eq-eqb _ _ x.if-image.true)) x.put_number_line.ensures) | else-image x ↦ rw x.writer-is (line_none sofar h (line_else _ _ _ (ne_eqb _ _ x.if-image.false))) ]
+    elim c.if-image.branch [
+      | then-image x ↦ rw x.writer-is (line_more sofar h (line_there _ _ _ (eq-eqb _ _ x.if-image.true)) x.put_number_line.ensures)
+      | else-image x ↦ rw x.writer-is (line_none sofar h (line_else _ _ _ (ne_eqb _ _ x.if-image.false)))
+    ]
 
 pub returns : goal.returns
 unfolding remove_lines
