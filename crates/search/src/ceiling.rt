@@ -35,32 +35,22 @@ pub fn row_top(
     let open = words::count_open(workspace, row.0 + 1, pairs);
     let mut top = pairs + 1 + open;
     let mut last = value.0;
-    loop {
-        match bitset::least_above(word, last) {
-            Some(v) => {
-                let above = pairs
-                    + 2
-                    + words::refine(
-                        edges,
-                        masks,
-                        first,
-                        workspace,
-                        row,
-                        pairs,
-                        NewVertex(v),
-                        open,
-                        0,
-                    );
-                if top < above {
-                    top = above;
-                }
-                last = v;
-            }
-            None => {
-                return top;
-            }
-        }
+    while let Some(v) = bitset::least_above(word, last) {
+        let kept = words::refine(
+            edges,
+            masks,
+            first,
+            workspace,
+            row,
+            pairs,
+            NewVertex(v),
+            open,
+            0,
+        );
+        top = top.max(pairs + 2 + kept);
+        last = v;
     }
+    top
 }
 
 // One more than the greatest upper bound among the later siblings of the node and of its ancestors. A level is passed over where its parent's
@@ -81,10 +71,8 @@ pub fn later_top(
         → result ≡ max least (top_bound (rules_of P) (later_siblings (rules_of P) (take depth path.now) depth)) }
 {
     let mut top = least;
-    let mut k = depth;
     let mut left = pairs;
-    while 0 < k {
-        let row = k - 1;
+    for row in (0..depth).rev() {
         let last = path[row];
         if last != UNMAPPED {
             left -= 1;
@@ -99,12 +87,9 @@ pub fn later_top(
                     left,
                     NewVertex(last as usize),
                 );
-                if top < above {
-                    top = above;
-                }
+                top = top.max(above);
             }
         }
-        k = row;
     }
     top
 }
@@ -122,17 +107,17 @@ pub fn ceiling(
     ensures { (connected : Bool) (P : Problem) → Setting P P.old.order edges.now masks.now → Ready connected P walk workspace.old
         → result ≡ ceiling_of (rules_of P) walk.checkpoint.minimum (state_of P.old.order walk.checkpoint) }
 {
-    let mut top = walk.cutoff;
-    let finished = walk.checkpoint.finished;
-    if finished {
-        return top;
-    }
-    let depth = walk.checkpoint.depth;
-    let path = walk.checkpoint.path;
-    if top <= walk.bound {
-        top = walk.bound + 1;
+    if walk.checkpoint.finished {
+        return walk.cutoff;
     }
     later_top(
-        edges, masks, first, &path, workspace, depth, walk.pairs, top,
+        edges,
+        masks,
+        first,
+        &walk.checkpoint.path,
+        workspace,
+        walk.checkpoint.depth,
+        walk.pairs,
+        walk.cutoff.max(walk.bound + 1),
     )
 }

@@ -67,10 +67,6 @@ pub fn upper_bound(
         return pairs + later;
     }
     let row = depth - 1;
-    let mut need = 0;
-    if pairs < cutoff {
-        need = cutoff - pairs;
-    }
     pairs
         + words::refine(
             edges,
@@ -81,7 +77,7 @@ pub fn upper_bound(
             pairs - 1,
             NewVertex(last as usize),
             later,
-            need,
+            cutoff.saturating_sub(pairs),
         )
 }
 
@@ -90,8 +86,8 @@ pub fn row_numbers() -> [u8; MAX_ORDER]
     ensures { Numbers result }
 {
     let mut numbers = [0u8; MAX_ORDER];
-    for i in 0..MAX_ORDER {
-        numbers[i] = ((i + 1) % 256) as u8;
+    for (row, number) in numbers.iter_mut().enumerate() {
+        *number = (row + 1) as u8;
     }
     numbers
 }
@@ -135,6 +131,7 @@ pub fn move_down(numbers: &[u8; MAX_ORDER], path: &mut [u8; MAX_ORDER], depth: u
 }
 
 // The first child: the row at `depth`, from which on `rows` rows have a candidate, takes its least candidate, or is left out.
+#[tactic(auto, using(crate::proofs::MeetTurn::row_inside, crate::proofs::NodeWords::open_rows_max))]
 pub fn descend(
     numbers: &[u8; MAX_ORDER],
     path: &mut [u8; MAX_ORDER],
@@ -160,8 +157,8 @@ pub fn descend(
         Some(v) => {
             let later = rows - 1;
             trail[pairs] = LATER * later + MAX_ORDER * depth + v;
-            let value = (v % 256) as u8;
-            move_down(numbers, path, ((depth + 1) % 256) as u8, value);
+            let value = v as u8;
+            move_down(numbers, path, (depth + 1) as u8, value);
             Place {
                 depth: depth + 1,
                 pairs: pairs + 1,
@@ -171,7 +168,7 @@ pub fn descend(
             }
         }
         None => {
-            move_down(numbers, path, ((depth + 1) % 256) as u8, UNMAPPED);
+            move_down(numbers, path, (depth + 1) as u8, UNMAPPED);
             Place {
                 depth: depth + 1,
                 pairs,
@@ -185,6 +182,7 @@ pub fn descend(
 
 // The nearest later sibling of the node or of an ancestor: the last pair takes its next candidate, or is left out. The rows after it, which were
 // left out, have no later sibling.
+#[tactic(auto, using(crate::proofs::MeetTurn::row_above_inside))]
 pub fn retreat(
     numbers: &[u8; MAX_ORDER],
     path: &mut [u8; MAX_ORDER],
@@ -222,8 +220,8 @@ pub fn retreat(
     ) {
         Some(v) => {
             trail[before] = LATER * later + MAX_ORDER * row + v;
-            let value = (v % 256) as u8;
-            move_back(numbers, path, ((row + 1) % 256) as u8, value);
+            let value = v as u8;
+            move_back(numbers, path, (row + 1) as u8, value);
             Place {
                 depth: row + 1,
                 pairs,
@@ -233,7 +231,7 @@ pub fn retreat(
             }
         }
         None => {
-            move_back(numbers, path, ((row + 1) % 256) as u8, UNMAPPED);
+            move_back(numbers, path, (row + 1) as u8, UNMAPPED);
             Place {
                 depth: row + 1,
                 pairs: before,
@@ -262,10 +260,8 @@ pub fn trail_rows(trail: &[usize; MAX_ORDER], pairs: usize) -> u64
         → Trail path depth trail.now workspace → result ≡ mapped_set (take depth path) }
 {
     let mut set = 0;
-    let mut left = pairs;
-    while 0 < left {
-        left -= 1;
-        set = bitset::with(set, trail[left] / MAX_ORDER % MAX_ORDER);
+    for before in (0..pairs).rev() {
+        set = bitset::with(set, trail[before] / MAX_ORDER % MAX_ORDER);
     }
     set
 }
@@ -319,13 +315,8 @@ impl Walk {
         let mut incumbent = self.checkpoint.incumbent;
         let mut cutoff = self.cutoff;
         let mut path = self.checkpoint.path;
-        let mut place = Place {
-            depth,
-            pairs,
-            finished: false,
-            last: 0,
-            later: 0,
-        };
+        // as the value of the `if` the place would go through memory, for 16 instructions a visit
+        let place;
         if self.bound < cutoff {
             place = retreat(numbers, &mut path, trail, workspace, pairs);
         } else if depth == order {
@@ -392,20 +383,27 @@ pub fn start(
     ensures trail { Trail checkpoint.path checkpoint.depth trail.new workspace.new }
 {
     let depth = checkpoint.depth;
-    let holds = checkpoint.holds;
-    let path = checkpoint.path;
-    let incumbent = checkpoint.incumbent;
-    let mut cutoff = checkpoint.minimum as usize;
-    if holds {
-        cutoff = mapping::mapping_size(&incumbent[..order]) + 1;
-    }
-    let pairs = mapping::mapping_size(&path[..depth]);
-    rebuild(edges, masks, first, &path, trail, workspace, depth);
+    let cutoff = if checkpoint.holds {
+        mapping::mapping_size(&checkpoint.incumbent[..order]) + 1
+    } else {
+        checkpoint.minimum as usize
+    };
+    let pairs = mapping::mapping_size(&checkpoint.path[..depth]);
+    rebuild(
+        edges,
+        masks,
+        first,
+        &checkpoint.path,
+        trail,
+        workspace,
+        depth,
+    );
     // with 64 pairs no row is undecided
-    let mut bound = pairs;
-    if pairs < MAX_ORDER {
-        bound = pairs + words::count_open(workspace, depth, pairs);
-    }
+    let bound = if pairs < MAX_ORDER {
+        pairs + words::count_open(workspace, depth, pairs)
+    } else {
+        pairs
+    };
     Walk {
         checkpoint,
         pairs,
@@ -436,18 +434,17 @@ pub fn run(
         (visits (search_of connected P) walk.checkpoint.minimum budget (state_of P.old.order walk.checkpoint)) result workspace.new }
 {
     let mut at = walk;
-    let mut last = walk.checkpoint.steps;
-    let finished = walk.checkpoint.finished;
-    if !finished {
-        last = walk.checkpoint.steps + budget;
-    }
+    let mut last = if walk.checkpoint.finished {
+        walk.checkpoint.steps
+    } else {
+        walk.checkpoint.steps + budget
+    };
     let numbers = row_numbers();
     while at.checkpoint.steps < last {
         at = at.visit(
             connected, order, edges, masks, first, &numbers, neighbours, trail, workspace,
         );
-        let finished = at.checkpoint.finished;
-        if finished {
+        if at.checkpoint.finished {
             last = at.checkpoint.steps;
         }
     }

@@ -80,12 +80,7 @@ pub fn level_word(workspace: &[u64], pairs: usize, row: OldVertex) -> u64
 pub fn many_edges(order: usize, edges: &[u8]) -> bool
     requires { (length edges.now ≡ 4096) × (order ≤ 64) }
 {
-    let mut count = 0;
-    for i in 0..edges.len() {
-        if edges[i] != 0 {
-            count += 1;
-        }
-    }
+    let count = edges.iter().filter(|edge| **edge != 0).count();
     order * order < 6 * count
 }
 
@@ -97,9 +92,7 @@ pub fn first_rows(many: bool, edges: &[u8], row: OldVertex) -> u64
     let from = row.0;
     let mut word = 0;
     for r in from + 1..MAX_ORDER {
-        if many {
-            word = bitset::with(word, r);
-        } else if edges[MAX_ORDER * from + r] != 0 {
+        if many || edges[MAX_ORDER * from + r] != 0 {
             word = bitset::with(word, r);
         }
     }
@@ -113,8 +106,8 @@ pub fn all_first(order: usize, edges: &[u8]) -> [u64; MAX_ORDER]
 {
     let many = many_edges(order, edges);
     let mut first = [0u64; MAX_ORDER];
-    for row in 0..MAX_ORDER {
-        first[row] = first_rows(many, edges, OldVertex(row));
+    for (row, rows) in first.iter_mut().enumerate() {
+        *rows = first_rows(many, edges, OldVertex(row));
     }
     first
 }
@@ -128,6 +121,7 @@ pub struct Kept {
 
 // Of the rows `near` each word meets the mask of its edge to `row`, which took `value` after `pairs` pairs. No turn asks whether enough rows are
 // left: a way out of the midst would be hard to foresee.
+#[tactic(auto, using(crate::proofs::MeetTurn::row_inside, crate::proofs::MeetTurn::rest_falls, crate::proofs::MeetTurn::some_left))]
 pub fn meet_near(
     edges: &[u8],
     masks: &[u64],
@@ -147,29 +141,24 @@ pub fn meet_near(
     let mut rest = near;
     let mut rows = kept.rows;
     let mut left = kept.count;
-    loop {
-        match bitset::least_member(rest) {
-            Some(r) => {
-                let label = edges[MAX_ORDER * from + r] as usize;
-                let at = MAX_ORDER * pairs + r;
-                let word = bitset::meet(workspace[at], masks[EDGE_LABELS * value.0 + label]);
-                // an empty word is stored too: a jump over the store would be hard to foresee
-                workspace[at + MAX_ORDER] = word;
-                rest = bitset::without_least(rest);
-                if bitset::is_empty(word) {
-                    left -= 1;
-                } else {
-                    rows = bitset::with(rows, r);
-                }
-            }
-            None => {
-                return Kept { rows, count: left };
-            }
+    while let Some(r) = bitset::least_member(rest) {
+        let label = edges[MAX_ORDER * from + r] as usize;
+        let at = MAX_ORDER * pairs + r;
+        let word = bitset::meet(workspace[at], masks[EDGE_LABELS * value.0 + label]);
+        // an empty word is stored too: a jump over the store would be hard to foresee
+        workspace[at + MAX_ORDER] = word;
+        rest = bitset::without_least(rest);
+        if bitset::is_empty(word) {
+            left -= 1;
+        } else {
+            rows = bitset::with(rows, r);
         }
     }
+    Kept { rows, count: left }
 }
 
 // Of the rows `far`, without an edge to the row just mapped, each word meets the one mask of null edges.
+#[tactic(auto, using(crate::proofs::MeetTurn::row_inside, crate::proofs::MeetTurn::rest_falls, crate::proofs::MeetTurn::some_left))]
 pub fn meet_far(
     mask: u64,
     workspace: &mut [u64],
@@ -184,27 +173,21 @@ pub fn meet_far(
     let mut rest = far;
     let mut rows = kept.rows;
     let mut left = kept.count;
-    loop {
-        match bitset::least_member(rest) {
-            Some(r) => {
-                let at = MAX_ORDER * pairs + r;
-                let word = bitset::meet(workspace[at], mask);
-                if bitset::is_empty(word) {
-                    left -= 1;
-                    if left < need {
-                        return Kept { rows, count: left };
-                    }
-                } else {
-                    rows = bitset::with(rows, r);
-                    workspace[at + MAX_ORDER] = word;
-                }
-                rest = bitset::without_least(rest);
-            }
-            None => {
+    while let Some(r) = bitset::least_member(rest) {
+        let at = MAX_ORDER * pairs + r;
+        let word = bitset::meet(workspace[at], mask);
+        if bitset::is_empty(word) {
+            left -= 1;
+            if left < need {
                 return Kept { rows, count: left };
             }
+        } else {
+            rows = bitset::with(rows, r);
+            workspace[at + MAX_ORDER] = word;
         }
+        rest = bitset::without_least(rest);
     }
+    Kept { rows, count: left }
 }
 
 // The words after `row`, with `pairs` pairs before it, took `value`: the word of each later row that has one meets the mask of its edge to
@@ -265,7 +248,5 @@ pub fn clear_words(workspace: &mut [u64])
     requires { 4160 ≤ length workspace.old }
     ensures { workspace.new ≡ replicate 4160 0 ++ drop 4160 workspace.old }
 {
-    for i in 0..WORDS {
-        workspace[i] = 0;
-    }
+    workspace[..WORDS].fill(0);
 }

@@ -17,7 +17,7 @@ use Rattle.search.proofs.NodeWords.{open_rows_max, size_take_max}
 use Rattle.search.proofs.ReadyWalk.{own_order}
 use Rattle.search.proofs.ResumedWalk.{cutoff_counted}
 use Rattle.search.proofs.walk.start.Goals as goal
-use Rattle.search.proofs.walk.start.Goals.{After-mapping_size-pairs, After-slice_known-2-1, else-holds, then-holds}
+use Rattle.search.proofs.walk.start.Goals.{After-mapping_size-pairs, else-checkpoint, then-checkpoint}
 
 pub slice_bounds-mapping_size-end : goal.slice_bounds-mapping_size-end
 slice_bounds-mapping_size-end c =
@@ -26,7 +26,7 @@ slice_bounds-mapping_size-end c =
 pub overflow_add-cutoff : goal.overflow_add-cutoff
 overflow_add-cutoff c =
     let a = c.args in
-    omega (arith, c.mapping_size-cutoff.ensures, size_max (take a.order a.checkpoint.incumbent), length-take a.order a.checkpoint.incumbent)
+    omega (arith, c.mapping_size.ensures, size_max (take a.order a.checkpoint.incumbent), length-take a.order a.checkpoint.incumbent)
 
 pub slice_bounds-mapping_size-end-2 : goal.slice_bounds-mapping_size-end-2
 slice_bounds-mapping_size-end-2 c =
@@ -41,11 +41,11 @@ rebuild-requires c =
 cutoff_is : (c : After-mapping_size-pairs) {P : Problem} {edges masks : List ℕ}
     → (let a = c.args in
     Setting P a.order edges masks
-    → c.if-holds.cutoff ≡ cutoff a.checkpoint.minimum (state_of P.old.order a.checkpoint).incumbent)
+    → c.if-checkpoint.cutoff ≡ cutoff a.checkpoint.minimum (state_of P.old.order a.checkpoint).incumbent)
 cutoff_is c setting =
     let a = c.args in
     rw setting.order_is (cutoff_counted a.order _ a.checkpoint
-    (elim c.if-holds.branch [ then-holds w ↦ inl (w.if-holds.true, w.cutoff-is ∙ ap (λ (k : ℕ). k + 1) w.mapping_size-cutoff.ensures) | else-holds w ↦ inr (w.if-holds.false, w.cutoff-is) ]))
+    (elim c.if-checkpoint.branch [ then-checkpoint w ↦ inl (w.if-checkpoint.true, w.cutoff-is ∙ ap (λ (k : ℕ). k + 1) w.mapping_size.ensures) | else-checkpoint w ↦ inr (w.if-checkpoint.false, w.cutoff-is) ]))
 
 pub overflow_add-bound : goal.overflow_add-bound
 overflow_add-bound c =
