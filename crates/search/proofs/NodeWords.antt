@@ -43,7 +43,7 @@ pub size_mapped : (path : List ℕ) (row : ℕ) → row < length path → (get_o
 size_mapped path row h mapped =
     rw (take_extend path row h) (omega (arith, size_extend (take row path) (get_or path row 0), counted_mapped (get_or path row 0) mapped))
 
-module _ {edges masks first path : List ℕ} {depth pairs : ℕ} {ws : List ℕ} (bounds : InBounds edges masks first path depth pairs ws) where
+module _ {path : List ℕ} {depth pairs : ℕ} {ws : List ℕ} (bounds : InBounds path depth pairs ws) where
   -- A node has no more pairs than rows.
   pub pairs_max : pairs ≤ depth
   pairs_max = omega (arith, bounds.pairs_are, size_take_max path depth)

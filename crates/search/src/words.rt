@@ -6,9 +6,11 @@ ghost use Rattle.problem.specs.Problem.{Problem};
 ghost use Rattle.problem.specs.VertexSets.{AllowedSets};
 ghost use Rattle.bitset.specs.Count.{size};
 ghost use Rattle.search.specs.Words.{Masks, MaskRow, RootWords, level_word, Counted, open_rows};
-ghost use Rattle.search.specs.Words.{Covers, First, Met, near_word, far_word};
+ghost use Rattle.search.specs.Rows.{Covers, First};
+ghost use Rattle.search.specs.Words.{Met, near_word, far_word};
 
 use super::WORDS;
+use super::tables::Tables;
 use graph::MAX_ORDER;
 use mapping::{NewVertex, OldVertex};
 
@@ -123,8 +125,7 @@ pub struct Kept {
 // left: a way out of the midst would be hard to foresee.
 #[tactic(auto, using(crate::proofs::MeetTurn::row_inside, crate::proofs::MeetTurn::rest_falls, crate::proofs::MeetTurn::some_left))]
 pub fn meet_near(
-    edges: &[u8],
-    masks: &[u64],
+    tables: Tables<'_>,
     workspace: &mut [u64],
     row: OldVertex,
     pairs: usize,
@@ -132,9 +133,9 @@ pub fn meet_near(
     near: u64,
     kept: Kept,
 ) -> Kept
-    requires edges_len { (length edges.now ≡ 4096) × (length masks.now ≡ 16384) × (4160 ≤ length workspace.old) }
+    requires room { 4160 ≤ length workspace.old }
     requires row_bound { (row.0 < 64) × (pairs < 63) × (value.0 < 64) × (size near ≤ kept.count) }
-    ensures { Met near (near_word edges.now masks.now row.0 pairs value.0 workspace.old)
+    ensures { Met near (near_word tables.entry.edges.now tables.entry.masks.now row.0 pairs value.0 workspace.old)
         (pairs + 1) 0 workspace.old kept workspace.new result }
 {
     let from = row.0;
@@ -142,9 +143,9 @@ pub fn meet_near(
     let mut rows = kept.rows;
     let mut left = kept.count;
     while let Some(r) = bitset::least_member(rest) {
-        let label = edges[MAX_ORDER * from + r] as usize;
+        let label = tables.edges[MAX_ORDER * from + r] as usize;
         let at = MAX_ORDER * pairs + r;
-        let word = bitset::meet(workspace[at], masks[EDGE_LABELS * value.0 + label]);
+        let word = bitset::meet(workspace[at], tables.masks[EDGE_LABELS * value.0 + label]);
         // an empty word is stored too: a jump over the store would be hard to foresee
         workspace[at + MAX_ORDER] = word;
         rest = bitset::without_least(rest);
@@ -191,12 +192,10 @@ pub fn meet_far(
 }
 
 // The words after `row`, with `pairs` pairs before it, took `value`: the word of each later row that has one meets the mask of its edge to
-// `row`, those in `first` before the others, which have no edge to it. `count` later rows have a word. Returns how many of them keep one, or, once
+// `row`, those that are met first before the others, which have no edge to it. `count` later rows have a word. Returns how many of them keep one, or, once
 // fewer than `need` can, a number below `need`. After 64 pairs there is no later row.
 pub fn refine(
-    edges: &[u8],
-    masks: &[u64],
-    first: u64,
+    tables: Tables<'_>,
     workspace: &mut [u64],
     row: OldVertex,
     pairs: usize,
@@ -204,22 +203,21 @@ pub fn refine(
     count: usize,
     need: usize,
 ) -> usize
-    requires edges_len { (length edges.now ≡ 4096) × (length masks.now ≡ 16384) × (4160 ≤ length workspace.old) }
-    requires row_bound { (row.0 < 64) × (pairs ≤ row.0) × (value.0 < 64) × Covers edges.now row.0 first
-        × (count ≡ open_rows (row.0 + 1) pairs workspace.old) }
-    ensures { Counted edges.now masks.now row.0 pairs value.0 need workspace.old workspace.new result }
+    requires room { 4160 ≤ length workspace.old }
+    requires row_bound { (row.0 < 64) × (pairs ≤ row.0) × (value.0 < 64) × (count ≡ open_rows (row.0 + 1) pairs workspace.old) }
+    ensures { Counted tables.entry.edges.now tables.entry.masks.now row.0 pairs value.0 need workspace.old workspace.new result }
 {
     if pairs == 63 {
         return 0;
     }
     let open = bitset::members_from(workspace[OPEN_SETS + pairs], row.0 + 1);
-    let near = bitset::meet(open, first);
+    let near = bitset::meet(open, tables.first[row.0]);
     let all = Kept { rows: 0, count };
-    let met = meet_near(edges, masks, workspace, row, pairs, value, near, all);
+    let met = meet_near(tables, workspace, row, pairs, value, near, all);
     if met.count < need {
         return met.count;
     }
-    let mask = masks[EDGE_LABELS * value.0];
+    let mask = tables.masks[EDGE_LABELS * value.0];
     let kept = meet_far(
         mask,
         workspace,

@@ -1,5 +1,5 @@
 use mathlib.Core.Path.{◌≡◌, refl}
-use Prim.Native.Nat.{◌+◌, ◌-◌, ◌<◌}
+use Prim.Native.Nat.{◌+◌, ◌-◌}
 use native.Mathlib.Omega.{arith}
 use lib.ListN.{take}
 use Rattle.mapping.specs.Common.{size}
@@ -40,13 +40,12 @@ overflow_cast-last c =
 pub row_top-above-requires : goal.row_top-above-requires
 row_top-above-requires c =
     let pre = c.requires in
-    let inside : (c.loop-row.row - 1) < 64 = omega (arith, pre.depth_max, c.loop-row.invariant.k_max) in record {
-      edges_len = (pre.edges_length, pre.masks_length, omega (arith, pre.room, c.loop-row.invariant.kept.words));
+    let inv = c.loop-row.invariant in record {
+      room = omega (arith, pre.room, inv.kept.words);
       row_bound = (
-        inside,
+        omega (arith, pre.depth_max, inv.k_max),
         omega (arith, pairs_left (goal.at.row_top-above-requires c).Then-last, size_take_max c.args.path.now (c.loop-row.row - 1)),
         entry_max pre (c.loop-row.row - 1) (omega arith) c.if-last.true,
-        pre.first_are (c.loop-row.row - 1) inside,
       );
     }
 

@@ -6,4 +6,4 @@ use Rattle.search.proofs.ceiling.later_top.Given as goal
 
 abbrev pub invariant-loop-row : goal.invariant-loop-row
 invariant-loop-row l =
-    LevelsHead l.edges l.masks l.path l.initial.workspace l.workspace l.depth l.pairs l.least l.row l.left l.top
+    LevelsHead l.tables.edges.now l.tables.masks.now l.path l.initial.workspace l.workspace l.depth l.pairs l.least l.row l.left l.top

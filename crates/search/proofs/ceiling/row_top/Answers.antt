@@ -32,26 +32,25 @@ refine-kept-requires c =
     let least = least_above_member _ _ (member (goal.at.refine-kept-requires c).In-Some) in
     let pre = c.requires in
     let kept = c.loop-v.invariant.1.words in record {
-      edges_len = (pre.edges_len.0, pre.edges_len.1, omega arith);
+      room = omega (arith, pre.room);
       row_bound = (
         pre.row_bound.0,
         pre.row_bound.1,
         least.below,
-        pre.row_bound.3,
         c.count_open-open.ensures ∙ sym (open_rows_same c.loop-v.invariant.1 (c.args.row.0 + 1) c.args.pairs (le_refl _)),
       );
     }
 
 -- the rows counted are those foretold from the level at entry
-counted : (c : After-refine-kept) → c.refine-kept.result ≡ (let a = c.args in meet_rows a.edges.now a.masks.now a.row.0 a.pairs c.in-Some.v a.workspace.now)
+counted : (c : After-refine-kept) → c.refine-kept.result ≡ (let a = c.args in meet_rows a.tables.edges.now a.tables.masks.now a.row.0 a.pairs c.in-Some.v a.workspace.now)
 counted c =
     let a = c.args in
-    (c.refine-kept.ensures.whole (omega arith)).0 ∙ meet_rows_same c.loop-v.invariant.1 a.edges.now a.masks.now a.row.0 a.pairs c.in-Some.v (le_refl _)
+    (c.refine-kept.ensures.whole (omega arith)).0 ∙ meet_rows_same c.loop-v.invariant.1 a.tables.edges.now a.tables.masks.now a.row.0 a.pairs c.in-Some.v (le_refl _)
 
 pub overflow_add-pairs-in-Some : goal.overflow_add-pairs-in-Some
 overflow_add-pairs-in-Some c =
     let a = c.args in
-    let few = meet_rows_max a.edges.now a.masks.now a.row.0 a.pairs c.in-Some.v a.workspace.now in
+    let few = meet_rows_max a.tables.edges.now a.tables.masks.now a.row.0 a.pairs c.in-Some.v a.workspace.now in
     omega (arith, c.requires, counted (goal.at.overflow_add-pairs-in-Some c).After-refine-kept)
 
 pub loop-v-smaller : goal.loop-v-smaller

@@ -29,10 +29,8 @@ loop-at-init c =
 pub visit-at-requires : goal.visit-at-requires
 visit-at-requires c =
     let inv = c.loop-at.invariant in
-    let busy = goes_on inv.0 c.loop-at-test.true in record {
-      resumes = inv.1.resumes;
-      finished_value = (busy, omega (arith, c.loop-at-test.true, inv.0.busy busy), c.row_numbers-numbers.ensures, inv.2, c.requires.3);
-    }
+    let busy = goes_on inv.0 c.loop-at-test.true in
+    record { resumes = inv.1.resumes; goes_on = (busy, omega (arith, c.loop-at-test.true, inv.0.busy busy), inv.2) }
 
 -- the walk was not finished before it
 was_busy : (c : After-visit-at) → c.loop-at.at.checkpoint.finished ≡ false
@@ -50,7 +48,7 @@ loop-at-smaller-then-at c =
 -- one visit more
 ran : (c : After-visit-at)
     → (let a = c.args in
-    RanTo a.connected a.budget a.order a.edges.now a.masks.now a.first.now a.workspace.now a.walk c.visit-at.new.workspace
+    RanTo a.tables a.budget a.workspace.now a.walk c.visit-at.new.workspace
     c.visit-at.result)
 ran c =
     let inv = c.loop-at.invariant in

@@ -3,7 +3,7 @@
 use mathlib.Core.Path.{◌≡◌}
 use Prim.Native.Nat.{ℕ, ◌<◌}
 use lib.ListN.{length, get_or}
-use Rattle.search.specs.Words.{Covers}
+use Rattle.search.specs.Rows.{Covers}
 use Rattle.search.proofs.words.all_first.Given as goal
 
 abbrev pub invariant-loop-row : goal.invariant-loop-row

@@ -22,11 +22,11 @@ inside c = (next_row c.loop-r.invariant (found c)).0
 -- the word met is the row's new word
 word_is : (c : After-meet-word)
     → (let a = c.args in
-    c.meet-word.result ≡ near_word a.edges.now a.masks.now a.row.0 a.pairs a.value.0 a.workspace.now c.in-Some.r)
+    c.meet-word.result ≡ near_word a.tables.edges.now a.tables.masks.now a.row.0 a.pairs a.value.0 a.workspace.now c.in-Some.r)
 word_is c =
     let a = c.args in
     let r = c.in-Some.r in
-    let mask = get_or a.masks.now (256 * a.value.0 + get_or a.edges.now (place a.row.0 r) 0) 0 in
+    let mask = get_or a.tables.masks.now (256 * a.value.0 + get_or a.tables.edges.now (place a.row.0 r) 0) 0 in
     let found : least_member c.loop-r.rest ≡ Some r = sym c.least_member.ensures ∙ c.in-Some.is in
     let inside = (next_row c.loop-r.invariant found).0 in
     c.meet-word.ensures
