@@ -349,7 +349,9 @@ pub extern "C" fn golfcedar_clique(
 pub extern "C" fn golfcedar_step_limit(new_order: u64, old_order: u64, value: &mut u64) -> u32
     ensures { reply result value.new ≡ reply_of (foretold new_order old_order) }
 {
-    let limit = step_limit::step_limit(new_order as usize, old_order as usize);
-    let reply = Reply::of(limit.map(|visits| visits as usize));
+    let reply = match step_limit::step_limit(new_order as usize, old_order as usize) {
+        Ok(limit) => Reply::accepted(limit),
+        Err(error) => Reply::refused(error),
+    };
     reply.tell(value)
 }
