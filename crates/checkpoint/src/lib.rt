@@ -6,15 +6,47 @@ mod shape;
 
 ghost use Rattle.std.specs.Prelude.{◌≡◌};
 ghost use Rattle.problem.specs.Lent.{lent};
+ghost use Rattle.checkpoint.specs.declared.ShapeError.TheVariants.{Flawed as OfProblem};
 ghost use Rattle.checkpoint.specs.Checkpoints.{fresh_checkpoint};
 ghost use Rattle.checkpoint.specs.Checking.{checkpoint_answer};
-ghost use Rattle.checkpoint.specs.Answers.{shape_answer};
+ghost use Rattle.checkpoint.specs.Answers.{shape_refusal, shape_answer};
 
+use answers::Refusal;
 use graph::MAX_ORDER;
-use mapping::MappingsAnswer;
-use problem::{Edges, Labels, Orders, ProblemFlaw};
+use problem::{Problem, ProblemFlaw};
+
+// Why a checkpoint can't be gone on with.
+#[derive(Clone, Copy, Debug, PartialEq, Eq)]
+pub enum ShapeError {
+    Flawed(ProblemFlaw),
+    OutOfShape,
+}
+
+impl Refusal for ShapeError {
+    ghost says = { shape_refusal };
+
+    fn number(self) -> u8 {
+        match self {
+            ShapeError::Flawed(flaw) => flaw.number(),
+            ShapeError::OutOfShape => 14,
+        }
+    }
+
+    fn place(self) -> usize {
+        0
+    }
+}
+
+impl From<ProblemFlaw> for ShapeError {
+    ghost from_gives = { λ flaw r. r ≡ OfProblem flaw };
+
+    fn from(flaw: ProblemFlaw) -> ShapeError {
+        ShapeError::Flawed(flaw)
+    }
+}
 
 // 01 calls a checkpoint a bookmark, the minimum a floor, the incumbent the held matching.
+// `holds` and the incumbent's bytes stand beside each other: 01 asks that unused bytes are 0, and a checkpoint where they are not is refused (`rest_fits`).
 #[derive(Clone, Copy)]
 pub struct Checkpoint {
     pub minimum: u8,
@@ -41,50 +73,27 @@ impl Checkpoint {
             incumbent: [0u8; MAX_ORDER],
         }
     }
-}
 
-// The answer of `check_checkpoint`.
-#[derive(Clone, Copy)]
-pub enum ShapeAnswer {
-    InShape,
-    Flawed(ProblemFlaw),
-    OutOfShape,
-}
-
-// Whether the checkpoint is in shape for the two graphs, the substitutes and the search, the first or the connected one.
-pub fn check_checkpoint<'a>(
-    orders: Orders,
-    labels: Labels<'a>,
-    edges: Edges<'a>,
-    substitutes: &[u8],
-    connected: bool,
-    checkpoint: Checkpoint,
-) -> ShapeAnswer
-    ensures { shape_answer result ≡ checkpoint_answer connected (lent orders labels.entry edges.entry substitutes.now) checkpoint }
-{
-    let order = orders[0];
-    let rows = shape::rows(order);
-    let path = checkpoint.path;
-    let entries = shape::filled(path, checkpoint.depth);
-    // where nothing is held these bytes are checked all the same, and `in_shape` does not ask what was found
-    let incumbent = checkpoint.incumbent;
-    match mapping::check_mappings(
-        orders,
-        labels,
-        edges,
-        substitutes,
-        &entries[..rows],
-        &incumbent[..rows],
-    ) {
-        MappingsAnswer::Flawed(flaw) => ShapeAnswer::Flawed(flaw),
-        MappingsAnswer::Checked(reached, held) => {
-            if !shape::in_shape(order, checkpoint, reached, held) {
-                return ShapeAnswer::OutOfShape;
-            }
-            if !shape::held_admitted(connected, checkpoint, edges[0], rows) {
-                return ShapeAnswer::OutOfShape;
-            }
-            ShapeAnswer::InShape
+    // Whether it is in shape for the two graphs, the substitutes and the search, the first or the connected one.
+    pub fn check<'a>(self, problem: Problem<'a>, connected: bool) -> Result<(), ShapeError>
+        ensures { shape_answer result ≡ checkpoint_answer connected (lent problem.entry) self }
+    {
+        let order = problem.old.order;
+        let rows = shape::rows(order);
+        let entries = shape::filled(self.path, self.depth);
+        // where nothing is held these bytes are checked all the same, and `in_shape` does not ask what was found
+        let incumbent = self.incumbent;
+        let (reached, held) = mapping::check_mappings(
+            problem,
+            &entries[..rows],
+            &incumbent[..rows],
+        )?;
+        if !self.in_shape(order, reached, held) {
+            return Err(ShapeError::OutOfShape);
         }
+        if !self.held_admitted(connected, problem.old.edges, rows) {
+            return Err(ShapeError::OutOfShape);
+        }
+        Ok(())
     }
 }

@@ -16,14 +16,8 @@ fn adjacent(edges: &[u8], from: OldVertex, to: OldVertex) -> bool
 {
     let u = from.0;
     let v = to.0;
-    if u == v {
-        return false;
-    }
     let at = MAX_ORDER * u + v;
-    if edges.len() <= at {
-        return false;
-    }
-    edges[at] != 0
+    u != v && at < edges.len() && edges[at] != 0
 }
 
 fn neighbours_of(edges: &[u8], vertex: OldVertex) -> u64
@@ -54,10 +48,7 @@ fn is_mapped(mapping: &[u8], vertex: OldVertex) -> bool
     ensures { result ≡ is_mapped mapping.now vertex.0 }
 {
     let v = vertex.0;
-    if mapping.len() <= v {
-        return false;
-    }
-    mapping[v] != UNMAPPED
+    v < mapping.len() && mapping[v] != UNMAPPED
 }
 
 fn mapped_set(mapping: &[u8]) -> u64
@@ -78,21 +69,15 @@ pub fn is_connected_set(neighbours: &[u64; MAX_ORDER], set: u64) -> bool
 {
     let mut rest = bitset::without_least(set);
     let mut front = bitset::difference(set, rest);
-    loop {
-        if bitset::is_empty(rest) {
-            return true;
-        }
-        match bitset::least_member(front) {
-            Some(v) => {
-                let met = bitset::meet(rest, neighbours[v]);
-                front = bitset::union(bitset::without_least(front), met);
-                rest = bitset::difference(rest, met);
-            }
-            None => {
-                return false;
-            }
-        }
+    while !bitset::is_empty(rest) {
+        let Some(v) = bitset::least_member(front) else {
+            return false;
+        };
+        let met = bitset::meet(rest, neighbours[v]);
+        front = bitset::union(bitset::without_least(front), met);
+        rest = bitset::difference(rest, met);
     }
+    true
 }
 
 // Whether the mapped vertices of a mapping hang together.

@@ -1,4 +1,3 @@
-pub mod Cleared
 pub mod Examples
 pub mod Fuel
 pub mod Judge

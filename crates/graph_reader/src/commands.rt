@@ -8,6 +8,7 @@ ghost use Rattle.graph_reader.specs.Reading.{Applied};
 use super::{Edition, Fault};
 use graph::{Label, MAX_ORDER};
 
+// A command, or why there is none: the last two are commands too, as in `decode` and `judge` of specs/, and one arm of the loop refuses every fault.
 #[derive(Clone, Copy, Debug, PartialEq, Eq)]
 pub enum Command {
     Vertex(Label),
@@ -21,26 +22,20 @@ pub enum Command {
 pub fn decode(edition: Edition, rest: &[u8]) -> Command
     ensures { result ≡ decoded edition rest.now }
 {
-    if rest.len() == 0 {
-        return Command::Truncated;
-    }
-    let first = rest[0];
-    if first == 0 {
-        return Command::End;
-    }
-    if first == edition.vertex_code() {
-        if rest.len() < edition.vertex_width() {
-            return Command::Truncated;
+    match rest {
+        [] => Command::Truncated,
+        [0, ..] => Command::End,
+        [code, ..] if *code == edition.vertex_code() => {
+            if rest.len() < edition.vertex_width() {
+                Command::Truncated
+            } else {
+                Command::Vertex(edition.vertex_label(rest))
+            }
         }
-        return Command::Vertex(edition.vertex_label(rest));
+        [2, a, b, label, ..] => Command::Edge(*a, *b, *label),
+        [2, ..] => Command::Truncated,
+        _ => Command::Unknown,
     }
-    if first == 2 {
-        if rest.len() < 4 {
-            return Command::Truncated;
-        }
-        return Command::Edge(rest[1], rest[2], rest[3]);
-    }
-    Command::Unknown
 }
 
 impl Command {
@@ -59,6 +54,7 @@ impl Command {
 }
 
 // The next vertex, with its label: the graph's order after it.
+#[tactic(auto, unfolding(crate::specs::Reading::judge))]
 pub fn add_vertex(
     to: Edition,
     label: Label,
@@ -82,6 +78,7 @@ pub fn add_vertex(
 }
 
 // An edge between two vertices, which may be one and the same, entered both ways.
+#[tactic(auto, unfolding(crate::specs::Reading::judge))]
 pub fn add_edge(
     a: u8,
     b: u8,
@@ -109,6 +106,7 @@ pub fn add_edge(
 }
 
 // One command, judged against the graph so far and added to its tables if it stands: the order it makes, or none at the end.
+#[tactic(auto, unfolding(crate::specs::Reading::judge))]
 pub fn apply(
     to: Edition,
     command: Command,

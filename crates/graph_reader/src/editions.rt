@@ -8,33 +8,16 @@ ghost use Rattle.graph_reader.specs.Reading.{opens};
 use super::{Edition, Fault};
 use graph::Label;
 
-// The beginning of a file of the second edition.
-fn judge_second(bytes: &[u8]) -> Result<(), Fault>
-    ensures { opening_answer result ≡ opens Edition.Two bytes.now }
-{
-    if bytes.len() == 0 {
-        return Err(Fault::Truncated);
-    }
-    if bytes[0] != 4 {
-        return Err(Fault::OtherEdition);
-    }
-    if bytes.len() < 2 {
-        return Err(Fault::Truncated);
-    }
-    if bytes[1] != 2 {
-        return Err(Fault::OtherEdition);
-    }
-    Ok(())
-}
-
 impl Edition {
     // How a file begins: as its edition does, or with a fault.
+    #[tactic(auto, unfolding(crate::specs::Reading::opens))]
     pub fn judge_opening(self, bytes: &[u8]) -> Result<(), Fault>
         ensures { opening_answer result ≡ opens self bytes.now }
     {
-        match self {
-            Edition::One => Ok(()),
-            Edition::Two => judge_second(bytes),
+        match (self, bytes) {
+            (Edition::One, _) | (Edition::Two, [4, 2, ..]) => Ok(()),
+            (Edition::Two, [] | [4]) => Err(Fault::Truncated),
+            (Edition::Two, _) => Err(Fault::OtherEdition),
         }
     }
 

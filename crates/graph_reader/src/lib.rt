@@ -73,6 +73,7 @@ impl Refusal for ReadError {
 }
 
 // Reads graph bytes of the edition `from` into the two tables, for a graph that is to fit the edition `to`.
+#[tactic(auto, unfolding(crate::specs::Reading::reading_edition))]
 pub fn read_edition(
     from: Edition,
     to: Edition,
@@ -91,6 +92,7 @@ pub fn read_edition(
 }
 
 // Reads graph bytes into the two tables.
+#[tactic(auto, unfolding(crate::specs::Reading::reading))]
 pub fn read_graph(bytes: &[u8], labels: &mut [Label], edges: &mut [u8]) -> Result<usize, ReadError>
     ensures { reading_of result labels.new edges.new ≡ reading labels.old edges.old bytes.now }
 {

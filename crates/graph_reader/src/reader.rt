@@ -75,6 +75,7 @@ pub fn read_commands(
 }
 
 // A whole file, into tables that are all 0.
+#[tactic(auto, unfolding(crate::specs::Reading::read_file))]
 pub fn read_file(
     from: Edition,
     to: Edition,

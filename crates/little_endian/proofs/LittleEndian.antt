@@ -1,14 +1,14 @@
--- A number and its bytes, the lowest first, determine each other, at every width; and what the loops of `store` and `load` keep.
+-- A number and its bytes, the lowest first, determine each other, at every width; and the library's bytes of a number are these.
 use mathlib.Core.Path.{◌≡◌, refl, sym, ap, ap₂, ◌∙◌}
 use mathlib.Core.Logic.{◌↔◌}
-use mathlib.Core.List.{List, [], ◌∷◌, ◌++◌, append-nil}
-use Prim.Native.Nat.{ℕ, zero, suc, ◌+◌, ◌*◌, ◌/◌, ◌%◌, ◌-◌, ◌^◌, ◌≤◌, ◌<◌}
-use native.Mathlib.Nat.{mod-lt, mod-add-div, mod-eq_of_lt, div-eq_of_lt, add-mul-mod_self_left, add-mul-div_left, div-lt_iff_lt-mul, pow-suc, pow-le-pow_right, one-le-pow, sub-zero}
-use native.Mathlib.Numerals.{add-one}
+use mathlib.Core.List.{List, [], ◌∷◌, ◌++◌}
+use Prim.Native.Nat.{ℕ, zero, suc, ◌+◌, ◌*◌, ◌/◌, ◌%◌, ◌^◌, ◌<◌}
+use native.Mathlib.Nat.{mod-lt, mod-add-div, mod-eq_of_lt, div-eq_of_lt, div-div-eq-div-mul, add-mul-mod_self_left, add-mul-div_left, div-lt_iff_lt-mul, pow-suc}
 use native.Mathlib.Omega.{arith}
-use lib.ListN.{length, take, drop, get_or, set, length-set, length-take}
-use lib.Seq.{drop-nil, append_snoc, take-suc-set, take_all, drop-cons, get_or-take, drop-length}
+use lib.ListN.{length, replicate, drop, get_or}
+use lib.Seq.{drop-nil, drop-length}
 use Rattle.little_endian.specs.LittleEndian.{little_endian, from_little}
+use Rattle.std.specs.Int.{bytes_low_first}
 
 -- The bytes of a number are as many as asked for.
 pub length_little : (k x : ℕ) → length (little_endian k x) ≡ k
@@ -88,75 +88,23 @@ from_little_zero (b ∷ bytes) =
       λ each. omega (arith, each 0 (omega arith), rest.1 (λ i h. each (suc i) (omega arith))),
     )
 
--- What `store` keeps: the i bytes written and the bytes of the rest are the k bytes of x.
-pub record StoredBelow (k x : ℕ) (bytes : List ℕ) (rest i : ℕ) : Type 0 where
-  pub within : i ≤ k
-  pub room : length bytes ≡ k
-  pub told : take i bytes ++ little_endian (k - i) rest ≡ little_endian k x
-
--- At first none is written, and the rest is x.
-pub stored_none : (k x : ℕ) (bytes : List ℕ) → length bytes ≡ k → StoredBelow k x bytes x 0
-stored_none k x bytes e = record { within = omega arith; room = e; told = rw sub-zero }
-
--- The next byte is the remainder, and the quotient is the rest.
-pub stored_more : (k x : ℕ) (bytes : List ℕ) (rest i : ℕ) → StoredBelow k x bytes rest i → i < k
-    → StoredBelow k x (set bytes i (rest % 256)) (rest / 256) (i + 1)
+-- The bytes that the library's `to_le_bytes` gives from byte i + 1 on are those of the number without its i + 1 lowest,
+bytes_above : (i k x : ℕ) → bytes_low_first (suc i) k x ≡ little_endian k (x / 256 ^ suc i)
 unfolding little_endian
-stored_more k x bytes rest i s h =
-    let inside : i < length bytes = omega (arith, s.room) in
-    let left : k - i ≡ suc (k - suc i) = omega arith in
-    record {
-      within = omega arith;
-      room = length-set bytes i (rest % 256) ∙ s.room;
-      told = rw (add-one, take-suc-set, append_snoc) (rw left at s.told);
-    }
+bytes_above i zero x = refl
+bytes_above i (suc k) x =
+    let next : x / 256 ^ suc (suc i) ≡ x / 256 ^ suc i / 256 =
+    rw (pow-suc 256 (suc i), div-div-eq-div-mul x (256 ^ suc i) 256) refl in
+    ap (λ (l : List ℕ). x / 256 ^ suc i % 256 ∷ l) (bytes_above (suc i) k x ∙ ap (little_endian k) next)
 
--- At the end all are written.
-pub stored_all : (k x : ℕ) (bytes : List ℕ) (rest i : ℕ) → StoredBelow k x bytes rest i → k ≤ i → bytes ≡ little_endian k x
+-- so that they are the bytes of the number.
+pub library_bytes : (k x : ℕ) → bytes_low_first 0 (suc k) x ≡ little_endian (suc k) x
 unfolding little_endian
-stored_all k x bytes rest i s h =
-    let left : k - i ≡ 0 = omega arith in
-    let all : length bytes ≤ i = omega (arith, s.room) in
-    rw (left, take_all i bytes, append-nil) at s.told
+library_bytes k x = ap (λ (l : List ℕ). x % 256 ∷ l) (bytes_above 0 k x)
 
--- What `load` keeps: x is the number of those of the first k bytes that stand at i and above.
-pub record LoadedAbove (k : ℕ) (bytes : List ℕ) (i x : ℕ) : Type 0 where
-  pub within : i ≤ length (take k bytes)
-  pub small : x < 256 ^ (k - i)
-  pub told : x ≡ from_little (drop i (take k bytes))
-
--- At first none is read.
-pub loaded_none : (k : ℕ) (bytes : List ℕ) (i : ℕ) → i ≡ length (take k bytes) → LoadedAbove k bytes i 0
+-- Zeros above some bytes count nothing.
+pub from_little_zeros : (bytes : List ℕ) (n : ℕ) → from_little (bytes ++ replicate n 0) ≡ from_little bytes
 unfolding from_little
-loaded_none k bytes i e =
-    record {
-      within = omega arith;
-      small = one-le-pow (k - i) 256 (omega arith);
-      told = rw (e, drop-length);
-    }
-
--- The byte before them goes below their number.
-pub loaded_more : (k : ℕ) (bytes : List ℕ) (i x : ℕ) → LoadedAbove k bytes i x → 0 < i → get_or bytes (i - 1) 0 < 256
-    → LoadedAbove k bytes (i - 1) (x * 256 + get_or bytes (i - 1) 0)
-unfolding from_little
-loaded_more k bytes i x l h b =
-    let inside : i - 1 < length (take k bytes) = omega (arith, l.within) in
-    let below : i - 1 < k = omega (arith, length-take k bytes) in
-    let next : suc (i - 1) ≡ i = omega arith in
-    let left : k - (i - 1) ≡ suc (k - i) = omega arith in
-    let split : drop (i - 1) (take k bytes) ≡ get_or bytes (i - 1) 0 ∷ drop i (take k bytes) =
-    drop-cons (take k bytes) (i - 1) 0 inside ∙ ap₂ ◌∷◌ (get_or-take k bytes (i - 1) 0 below) (ap (λ (n : ℕ). drop n (take k bytes)) next) in
-    record {
-      within = omega arith;
-      small = rw left (omega (arith, next_byte_fits (k - i) x (get_or bytes (i - 1) 0) l.small b));
-      told = rw (split, ← l.told) (omega arith);
-    }
-
--- While a byte is left, x is a number that one byte fewer holds, so there is room for that byte.
-pub loaded_fits : (k : ℕ) (bytes : List ℕ) (i x : ℕ) → LoadedAbove (suc k) bytes i x → 0 < i → x < 256 ^ k
-loaded_fits k bytes i x l h =
-    omega (arith, l.small, pow-le-pow_right {n = 256} (omega arith) {i = suc k - i} {j = k} (omega arith))
-
--- At the end all are read.
-pub loaded_all : (k : ℕ) (bytes : List ℕ) (i x : ℕ) → LoadedAbove k bytes i x → i ≡ 0 → x ≡ from_little (take k bytes)
-loaded_all k bytes i x l e = rw e at l.told
+from_little_zeros [] zero = refl
+from_little_zeros [] (suc n) = omega (arith, from_little_zeros [] n)
+from_little_zeros (b ∷ bytes) n = rw (from_little_zeros bytes n)

@@ -5,59 +5,57 @@
 mod table;
 
 ghost use Rattle.std.specs.Prelude.{◌≡◌};
-ghost use Rattle.answers.specs.Answer.{refusal_number};
 ghost use Rattle.answers.specs.Output.{fill};
 ghost use Rattle.reasons.specs.Reasons.{reason_text};
 ghost use Rattle.reasons.specs.Rows.{RowsTell};
-ghost use Rattle.reasons.specs.Answers.{reason_answer, writing_of};
+ghost use Rattle.reasons.specs.Answers.{reason_refusal, writing_of};
+
+use answers::Refusal;
 
 // Each number below this one has a row.
 const COUNT: usize = 29;
 
-const WIDTH: usize = 80;
-
-// A text is the first `length` bytes of its row.
-#[derive(Clone, Copy)]
-struct Row {
-    length: usize,
-    text: [u8; WIDTH],
-}
-
-// The answer of `reason`: how many bytes the text has, or that the buffer is too short for it.
-#[derive(Clone, Copy)]
-pub enum ReasonAnswer {
-    Written(usize),
+// Why no text was written: the buffer is too short for it.
+#[derive(Clone, Copy, Debug, PartialEq, Eq)]
+pub enum ReasonError {
     TooShort,
 }
 
-// The document's number of a refusal, and 0 where the text was written.
-pub fn reason_number(answer: ReasonAnswer) -> u8
-    ensures { result ≡ refusal_number (reason_answer answer) }
-{
-    match answer {
-        ReasonAnswer::Written(_) => 0,
-        ReasonAnswer::TooShort => 13,
+impl Refusal for ReasonError {
+    ghost says = { reason_refusal };
+
+    fn number(self) -> u8 {
+        match self {
+            ReasonError::TooShort => 13,
+        }
+    }
+
+    fn place(self) -> usize {
+        0
     }
 }
 
-fn all_rows() -> [Row; COUNT]
+fn all_rows() -> [&'static str; COUNT]
     ensures { RowsTell result }
 {
     table::ROWS
 }
 
+// The empty text where no refusal has the number.
+fn text(number: u32) -> &'static str
+    ensures { result.now ≡ reason_text number }
+{
+    all_rows().get(number as usize).copied().unwrap_or("")
+}
+
 // The text of a number, at the front of `out`: the empty one if no refusal has the number.
-pub fn reason(number: u32, out: &mut [u8]) -> ReasonAnswer
+pub fn reason(number: u32, out: &mut [u8]) -> Result<usize, ReasonError>
     ensures { writing_of result out.new ≡ fill (reason_text number) out.old }
 {
-    if COUNT as u32 <= number {
-        return ReasonAnswer::Written(0);
+    let text = text(number).as_bytes();
+    if out.len() < text.len() {
+        return Err(ReasonError::TooShort);
     }
-    let rows = all_rows();
-    let row = rows[number as usize];
-    if out.len() < row.length {
-        return ReasonAnswer::TooShort;
-    }
-    let text = row.text;
-    ReasonAnswer::Written(text::put(&text[..row.length], out, 0))
+    out[..text.len()].copy_from_slice(text);
+    Ok(text.len())
 }

@@ -10,6 +10,8 @@ use lib.Seq.{sets, length-sets, take-nil, take_all}
 use Rattle.answers.specs.Output.{overwrite}
 use Rattle.answers.proofs.Stores.{sets_append, sets_front}
 use Rattle.text.specs.Put.{fitting, Put}
+use Rattle.text.specs.Writes.{Writes}
+use Rattle.text.specs.declared.Writer.{Writer}
 
 -- What holds of a text holds of an equal one.
 pub put_same : {s t before after : List ℕ} {at p : ℕ} → s ≡ t → Put s before at p after → Put t before at p after
@@ -70,3 +72,11 @@ put_front {text} {before} put h =
       put.place_is ∙ zero-add _ ∙ ap length whole,
       put.bytes_are ∙ ap (sets before 0) whole ∙ sets_front text before h,
     )
+
+-- So it is with what a writer puts.
+pub writes_same : {s t : List ℕ} {before after : Writer} → s ≡ t → Writes s before after → Writes t before after
+writes_same e put = record { same_buffer = put.same_buffer; text_put = put_same e put.text_put }
+
+pub writes_then : {s t : List ℕ} {before mid after : Writer} → Writes s before mid → Writes t mid after → Writes (s ++ t) before after
+writes_then first next =
+    record { same_buffer = next.same_buffer ∙ first.same_buffer; text_put = put_then first.text_put next.text_put }

@@ -2,62 +2,86 @@
 
 #![tactic(auto)]
 
-ghost use Rattle.std.specs.Prelude.{[], ◌∷◌, ◌++◌};
+ghost use Rattle.std.specs.Prelude.{◌≡◌, [], ◌∷◌, ◌++◌};
 ghost use Rattle.text.specs.Decimal.{decimal};
-ghost use Rattle.text.specs.Put.{Put, number_line, pair_line};
+ghost use Rattle.text.specs.Put.{number_line, pair_line};
+ghost use Rattle.text.specs.Writes.{Writes};
 
-// Each function puts its text from the place `at` on, and returns the place after it.
-fn put_byte(byte: u8, out: &mut [u8], at: usize) -> usize
-    ensures { Put (byte ∷ []) out.old at result out.new }
-{
-    if at < out.len() {
-        out[at] = byte;
-        return at + 1;
+// A lent buffer, and the place in it from which the next text is put.
+#[derive(Drop)]
+pub struct Writer<'a> {
+    out: &'a mut [u8],
+    at: usize,
+}
+
+impl<'a> Writer<'a> {
+    // Texts are put from the front on.
+    pub fn new(out: &'a mut [u8]) -> Writer<'a>
+        ensures same_reference { result.out.ghost_name ≡ out.entry.ghost_name }
+        ensures front { result.at ≡ 0 }
+        ensures unchanged { result.out.now ≡ out.old }
+    {
+        Writer { out, at: 0 }
     }
-    at
-}
 
-pub fn put(bytes: &[u8], out: &mut [u8], at: usize) -> usize
-    ensures { Put bytes.now out.old at result out.new }
-{
-    let mut place = at;
-    for i in 0..bytes.len() {
-        place = put_byte(bytes[i], out, place);
+    // How many bytes have been put.
+    pub fn written(&self) -> usize
+        ensures { result ≡ self.now.at }
+    {
+        self.at
     }
-    place
-}
 
-fn put_decimal(n: u64, out: &mut [u8], at: usize) -> usize
-    ensures { Put (decimal n) out.old at result out.new }
-{
-    if n < 10 {
-        return put_byte(48 + n as u8, out, at);
+    fn put_byte(&mut self, byte: u8)
+        ensures { Writes (byte ∷ []) self.old self.new }
+    {
+        if self.at < self.out.len() {
+            self.out[self.at] = byte;
+            self.at += 1;
+        }
     }
-    let last = put_decimal(n / 10, out, at);
-    put_byte(48 + (n % 10) as u8, out, last)
-}
 
-fn put_number(word: &[u8], n: u64, out: &mut [u8], at: usize) -> usize
-    ensures { Put (word.now ++ decimal n) out.old at result out.new }
-{
-    let number = put(word, out, at);
-    put_decimal(n, out, number)
-}
+    pub fn put(&mut self, bytes: &[u8])
+        ensures { Writes bytes.now self.old self.new }
+    {
+        for byte in bytes {
+            self.put_byte(*byte);
+        }
+    }
 
-// A line of a word and a number.
-pub fn put_number_line(word: &[u8], n: u64, out: &mut [u8], at: usize) -> usize
-    ensures { Put (number_line word.now n) out.old at result out.new }
-{
-    let end = put_number(word, n, out, at);
-    put_byte(10, out, end)
-}
+    fn put_decimal(&mut self, n: u64)
+        ensures { Writes (decimal n) self.old self.new }
+    {
+        if n < 10 {
+            self.put_byte(b'0' + n as u8);
+        } else {
+            self.put_decimal(n / 10);
+            self.put_byte(b'0' + (n % 10) as u8);
+        }
+    }
 
-// A line of a word and two numbers, a space between them.
-pub fn put_pair_line(word: &[u8], m: u64, n: u64, out: &mut [u8], at: usize) -> usize
-    ensures { Put (pair_line word.now m n) out.old at result out.new }
-{
-    let first = put_number(word, m, out, at);
-    let space = put_byte(32, out, first);
-    let second = put_decimal(n, out, space);
-    put_byte(10, out, second)
+    fn end_line(&mut self)
+        ensures { Writes (10 ∷ []) self.old self.new }
+    {
+        self.put_byte(b'\n');
+    }
+
+    // A line of a word and a number.
+    pub fn put_number_line(&mut self, word: &[u8], n: u64)
+        ensures { Writes (number_line word.now n) self.old self.new }
+    {
+        self.put(word);
+        self.put_decimal(n);
+        self.end_line();
+    }
+
+    // A line of a word and two numbers, a space between them.
+    pub fn put_pair_line(&mut self, word: &[u8], first: u64, second: u64)
+        ensures { Writes (pair_line word.now first second) self.old self.new }
+    {
+        self.put(word);
+        self.put_decimal(first);
+        self.put_byte(b' ');
+        self.put_decimal(second);
+        self.end_line();
+    }
 }

@@ -39,29 +39,29 @@ module _ (near : ℕ → ℕ) (set : ℕ) where
           same = rw (front_is, rest_is) (sym (spreads_round near k front rest some found) ∙ same);
         }
 
-pub loop-set-init : goal.loop-set-init
-loop-set-init c =
+pub loop-v-init : goal.loop-v-init
+loop-v-init c =
     let a = c.args in
     rw (c.difference-front.ensures, c.without_least-rest.ensures) (started (λ v. get_or a.neighbours.now v 0) a.set)
 
-pub returns-then-is_empty : goal.returns-then-is_empty
-returns-then-is_empty c =
-    let l = c.loop-set in
-    let none = eqb-true l.rest 0 (sym c.is_empty.ensures ∙ c.if-is_empty.true) in
+pub returns : goal.returns
+returns c =
+    let l = c.loop-v in
+    let none = eqb-true l.rest 0 (sym c.is_empty.ensures ∙ c.loop-v-test.false) in
     sym (spreads_done _ l.invariant.rounds l.front l.rest none) ∙ l.invariant.same
 
 -- the vertex that was found
-found : (c : In-Some) → least_member c.loop-set.front ≡ Some c.in-Some.v
+found : (c : In-Some) → least_member c.loop-v.front ≡ Some c.in-Some.v
 found c = sym c.least_member.ensures ∙ c.in-Some.is
 
 -- it is below 64
 inside : (c : In-Some) → c.in-Some.v < 64
-inside c = (least_below_member 64 (member c.loop-set.front) (found c)).below
+inside c = (least_below_member 64 (member c.loop-v.front) (found c)).below
 
 -- the rest is not empty
-some : (c : In-Some) → c.loop-set.rest ≢ 0
+some : (c : In-Some) → c.loop-v.rest ≢ 0
 some c =
-    eqb-false c.loop-set.rest 0 (sym c.is_empty.ensures ∙ c.if-is_empty.false)
+    eqb-false c.loop-v.rest 0 (sym c.is_empty.ensures ∙ c.loop-v-test.true)
 
 pub offset_bounds-neighbours-v : goal.offset_bounds-neighbours-v
 offset_bounds-neighbours-v c = omega (arith, inside c)
@@ -80,28 +80,28 @@ vertex c = c.in-Some.v
 
 -- what the round leaves is what `spreads` goes on with
 met_is : (c : After-difference-rest)
-    → c.meet-met.result ≡ meet_of c.loop-set.rest (near c (vertex c))
+    → c.meet-met.result ≡ meet_of c.loop-v.rest (near c (vertex c))
 met_is c = c.meet-met.ensures
 
 front_is : (c : After-difference-rest)
-    → c.union-front.result ≡ front_after (near c) c.loop-set.front c.loop-set.rest (vertex c)
+    → c.union-front.result ≡ front_after (near c) c.loop-v.front c.loop-v.rest (vertex c)
 front_is c =
     let put : c.union-front.result ≡ union_of c.without_least.result c.meet-met.result = c.union-front.ensures in
     put ∙ ap₂ union_of c.without_least.ensures (met_is c)
 
 rest_is : (c : After-difference-rest)
-    → c.difference-rest.result ≡ rest_after (near c) c.loop-set.rest (vertex c)
-rest_is c = c.difference-rest.ensures ∙ ap (difference_of c.loop-set.rest) (met_is c)
+    → c.difference-rest.result ≡ rest_after (near c) c.loop-v.rest (vertex c)
+rest_is c = c.difference-rest.ensures ∙ ap (difference_of c.loop-v.rest) (met_is c)
 
-pub loop-set-smaller : goal.loop-set-smaller
-loop-set-smaller c = fewer (near c) (set c) _ _ (found (goal.at.loop-set-smaller c).In-Some) (rest_is c) (front_is c)
+pub loop-v-smaller : goal.loop-v-smaller
+loop-v-smaller c = fewer (near c) (set c) _ _ (found (goal.at.loop-v-smaller c).In-Some) (rest_is c) (front_is c)
 
-pub loop-set-preserved : goal.loop-set-preserved
-loop-set-preserved c = goes_on (near c) (set c) _ _ (found (goal.at.loop-set-preserved c).In-Some) (rest_is c) (front_is c) c.loop-set.invariant (some (goal.at.loop-set-preserved c).In-Some)
+pub loop-v-preserved : goal.loop-v-preserved
+loop-v-preserved c = goes_on (near c) (set c) _ _ (found (goal.at.loop-v-preserved c).In-Some) (rest_is c) (front_is c) c.loop-v.invariant (some (goal.at.loop-v-preserved c).In-Some)
 
-pub returns-in-None : goal.returns-in-None
-returns-in-None c =
-    let l = c.loop-set in
-    let left = eqb-false l.rest 0 (sym c.is_empty.ensures ∙ c.if-is_empty.false) in
-    let none = sym c.least_member.ensures ∙ c.in-None.is in
+pub returns-in_default : goal.returns-in_default
+returns-in_default c =
+    let l = c.loop-v in
+    let left = eqb-false l.rest 0 (sym c.is_empty.ensures ∙ c.loop-v-test.true) in
+    let none = sym c.least_member.ensures ∙ c.in_default.is in
     sym (spreads_stuck _ l.invariant.rounds l.front l.rest left none) ∙ l.invariant.same

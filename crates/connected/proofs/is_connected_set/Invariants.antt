@@ -13,8 +13,8 @@ pub record SpreadsOn (near : ℕ → ℕ) (set rest front : ℕ) : Type 0 where
   pub enough : size front + size rest ≤ rounds
   pub same : spreads near rounds front rest ≡ connected_set near set
 
-abbrev pub invariant-loop-set : goal.invariant-loop-set
-invariant-loop-set l = SpreadsOn (λ v. get_or l.neighbours v 0) l.set l.rest l.front
+abbrev pub invariant-loop-v : goal.invariant-loop-v
+invariant-loop-v l = SpreadsOn (λ v. get_or l.neighbours v 0) l.set l.rest l.front
 
-abbrev pub decreases-loop-set : goal.decreases-loop-set
-decreases-loop-set l = size l.front + size l.rest
+abbrev pub decreases-loop-v : goal.decreases-loop-v
+decreases-loop-v l = size l.front + size l.rest

@@ -1,6 +1,6 @@
 -- `connected::neighbours` meets its contract: the vertices passed have their words.
 -- Assumes nothing.
-use Prim.Native.Nat.{◌-◌, ◌≤◌}
+use Prim.Native.Nat.{◌≤◌}
 use lib.ListN.{replicate}
 use Rattle.bounded.proofs.Settled.{SettledTo}
 use Rattle.connected.specs.Spreading.{neighbours}

@@ -1,13 +1,7 @@
-use mathlib.Core.Path.{refl}
-use native.Mathlib.Omega.{arith}
-use Rattle.little_endian.proofs.LittleEndian.{stored_none, stored_more, stored_all}
+-- `little_endian::store` meets its contract: the library's bytes of a number are those of the definition. Assumes nothing.
+use mathlib.Core.Path.{◌∙◌}
+use Rattle.little_endian.proofs.LittleEndian.{library_bytes}
 use Rattle.little_endian.proofs.store.Goals as goal
 
-pub loop-i-init : goal.loop-i-init
-loop-i-init c = stored_none 8 _ _ refl
-
-pub loop-i-preserved : goal.loop-i-preserved
-loop-i-preserved c = stored_more 8 _ _ _ _ c.loop-i.invariant (omega arith)
-
 pub returns : goal.returns
-returns c = stored_all 8 _ _ _ _ c.loop-i.invariant (omega arith)
+returns c = c.to_le_bytes.ensures ∙ library_bytes 7 c.args.x

@@ -3,7 +3,7 @@ use native.Mathlib.Omega.{arith}
 use Rattle.std.specs.Prelude.{Option, Some, None, Result, Ok, Err, ℕ, List}
 use denote.Ref.{Bor}
 use Rattle.graph_reader.specs.declared.Fault.{Fault}
-use lib.ListN.{length, drop}
+use lib.ListN.{drop}
 use mathlib.Core.Path.{◌≡◌, sym, ap, ◌∙◌}
 use Rattle.graph.specs.Graph.{Graph, graph}
 use Rattle.graph_reader.specs.Commands.{decode}
@@ -19,14 +19,6 @@ loop-grown-init c =
       same_edition = c.new-reader.ensures.2;
       head = rw (c.new-reader.ensures.1, c.opening_width.ensures) (head_first _ _ _ _ _ c.requires.2 c.requires.0 c.requires.1);
     }
-
-pub next-command-requires : goal.next-command-requires
-next-command-requires c = rw c.loop-grown.invariant.same_bytes c.loop-grown.invariant.head.at_max
-
-pub apply-requires : goal.apply-requires
-apply-requires c =
-    let head = c.loop-grown.invariant.head in
-    (head.labels_length, head.edges_length, head.order_max)
 
 -- the decoded command is the one at the front of the bytes from the place on
 told : (c : After-apply)
@@ -66,14 +58,6 @@ finish-requires c =
     let made = turn (goal.at.finish-requires c).After-apply (Ok None) (c.in-Ok-None.is ∙ ap Ok c.in-Ok-None.field-0-is) in
     (c.apply.auto.labels ∙ c.loop-grown.invariant.head.labels_length, c.apply.auto.edges ∙ c.loop-grown.invariant.head.edges_length, end_fits _ _ _ _ _ _ _ c.loop-grown.invariant.head _ (told (goal.at.finish-requires c).After-apply) c.apply.new.labels c.apply.new.edges made)
 
-pub shape_of-labels-in-Ok-None : goal.shape_of-labels-in-Ok-None
-shape_of-labels-in-Ok-None c =
-    c.finish.auto.labels ∙ c.apply.auto.labels ∙ c.loop-grown.invariant.head.labels_length ∙ sym (ap length c.requires.0)
-
-pub shape_of-edges-in-Ok-None : goal.shape_of-edges-in-Ok-None
-shape_of-edges-in-Ok-None c =
-    c.finish.auto.edges ∙ c.apply.auto.edges ∙ c.loop-grown.invariant.head.edges_length ∙ sym (ap length c.requires.1)
-
 pub returns-in-Ok-None : goal.returns-in-Ok-None
 returns-in-Ok-None c =
     let made = turn (goal.at.returns-in-Ok-None c).After-apply (Ok None) (c.in-Ok-None.is ∙ ap Ok c.in-Ok-None.field-0-is) in
@@ -82,14 +66,6 @@ returns-in-Ok-None c =
     c.finish.ensures
     ∙ ap (λ (g : Graph). finish g (at + 1) (drop (at + 1) bytes)) (end_keeps _ _ _ _ _ _ _ c.loop-grown.invariant.head _ (told (goal.at.returns-in-Ok-None c).After-apply) c.apply.new.labels c.apply.new.edges made c.apply.ensures.labels_after c.apply.ensures.edges_after)
     ∙ sym (end_reads _ _ _ _ _ _ _ c.loop-grown.invariant.head _ (told (goal.at.returns-in-Ok-None c).After-apply) c.apply.new.labels c.apply.new.edges made)
-
-pub shape_of-labels-in-Err : goal.shape_of-labels-in-Err
-shape_of-labels-in-Err c =
-    c.refuse.auto.labels ∙ c.apply.auto.labels ∙ c.loop-grown.invariant.head.labels_length ∙ sym (ap length c.requires.0)
-
-pub shape_of-edges-in-Err : goal.shape_of-edges-in-Err
-shape_of-edges-in-Err c =
-    c.refuse.auto.edges ∙ c.apply.auto.edges ∙ c.loop-grown.invariant.head.edges_length ∙ sym (ap length c.requires.1)
 
 pub returns-in-Err : goal.returns-in-Err
 returns-in-Err c =

@@ -1,6 +1,5 @@
 -- `search::walk::rebuild` meets its contract: each row passed that took a new vertex is refined (`RebuildTurn`).
 -- Assumes nothing.
-use Prim.Native.Nat.{◌-◌}
 use Rattle.search.specs.Walking.{Trail}
 use Rattle.search.proofs.RebuildTurn.{RebuiltTo}
 use Rattle.search.proofs.walk.rebuild.Given as goal
@@ -8,6 +7,3 @@ use Rattle.search.proofs.walk.rebuild.Given as goal
 abbrev pub invariant-loop-row : goal.invariant-loop-row
 invariant-loop-row l =
     RebuiltTo l.edges l.masks l.path l.depth l.initial.workspace l.workspace l.row l.pairs × Trail l.path l.row l.trail l.workspace
-
-abbrev pub decreases-loop-row : goal.decreases-loop-row
-decreases-loop-row l = l.depth - l.row

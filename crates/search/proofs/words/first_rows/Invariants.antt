@@ -3,7 +3,7 @@
 use mathlib.Core.Path.{◌≡◌}
 use mathlib.Core.Bool.{false}
 use mathlib.Core.List.{List}
-use Prim.Native.Nat.{ℕ, ◌-◌, ◌≤◌, ◌<◌}
+use Prim.Native.Nat.{ℕ, ◌≤◌, ◌<◌}
 use lib.ListN.{get_or}
 use Rattle.bitset.specs.Members.{member}
 use Rattle.graph.specs.Graph.{place}
@@ -15,6 +15,3 @@ Passed edges row word r = (k : ℕ) → row < k → k < r → member word k ≡ 
 
 abbrev pub invariant-loop-r : goal.invariant-loop-r
 invariant-loop-r l = (l.from < l.r) × (l.r ≤ 64) × Passed l.edges l.from l.word l.r
-
-abbrev pub decreases-loop-r : goal.decreases-loop-r
-decreases-loop-r l = 64 - l.r

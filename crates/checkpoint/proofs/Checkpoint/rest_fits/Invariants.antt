@@ -1,12 +1,11 @@
--- `checkpoint::shape::rest_fits` meets its contract: the places passed have passed the test (`UnusedBytes`).
+-- `checkpoint::Checkpoint::rest_fits` meets its contract: the places passed have passed the test (`UnusedBytes`).
 -- Assumes nothing.
 use mathlib.Core.Path.{◌≡◌}
 use mathlib.Core.Bool.{cond}
-use Prim.Native.Nat.{◌-◌}
 use Rattle.bounded.proofs.AllBelow.{PassedTo}
 use Rattle.checkpoint.specs.Checkpoints.{rest_fits}
 use Rattle.checkpoint.proofs.UnusedBytes.{with_bytes}
-use Rattle.checkpoint.proofs.shape.rest_fits.Given as goal
+use Rattle.checkpoint.proofs.Checkpoint.rest_fits.Given as goal
 
 abbrev pub invariant-loop-i : goal.invariant-loop-i
 invariant-loop-i l =
