@@ -8,7 +8,7 @@ mod tables;
 use answers::Refusal;
 use checkpoint::Checkpoint;
 use checkpoint_loader::LoadError;
-use graph::{Graph, Label};
+use graph::Label;
 use problem::Problem;
 use std::{array, io};
 use tables::Tables;
@@ -83,11 +83,7 @@ fn case_of(
 ) -> io::Result<()> {
     let old = Tables::read(rt, old)?;
     let new = Tables::read(rt, new)?;
-    let problem = Problem {
-        old: old.graph(),
-        new: new.graph(),
-        substitutes,
-    };
+    let problem = tables::lend(&old, &new, substitutes);
     load(rt, name, problem, connected, bytes)
 }
 
@@ -312,7 +308,16 @@ fn identity(mark: u8) -> [u8; 128] {
     })
 }
 
-// 64 vertices of label 1 on each side, no edges, moved from a file of edition 1: each vertex is mapped to its own number, on the path and in what is held.
+// At full depth, where each vertex is mapped to its own number, on the path and in what is held.
+fn all_mapped() -> [u8; 270] {
+    let mut bytes = [0u8; 270];
+    bytes[..13].copy_from_slice(b"\x10\x00\x11\x41\x00\x00\x00\x00\x00\x00\x00\x12\x01");
+    bytes[13..141].copy_from_slice(&identity(19));
+    bytes[141..269].copy_from_slice(&identity(20));
+    bytes
+}
+
+// 64 vertices of label 1 on each side, no edges, moved from a file of edition 1.
 fn full(rt: &impl Print) -> io::Result<()> {
     let mut earlier = [1u8; 129];
     earlier[128] = 0;
@@ -320,11 +325,7 @@ fn full(rt: &impl Print) -> io::Result<()> {
     if graph_writer::to_edition_2(&earlier, &mut graph).is_err() {
         println!(rt; "not moved")?;
     }
-    let mut bytes = [0u8; 270];
-    bytes[..13].copy_from_slice(b"\x10\x00\x11\x41\x00\x00\x00\x00\x00\x00\x00\x12\x01");
-    bytes[13..141].copy_from_slice(&identity(19));
-    bytes[141..269].copy_from_slice(&identity(20));
-    case(rt, "64 vertices at full depth", &graph, &graph, b"", &bytes)
+    case(rt, "64 vertices at full depth", &graph, &graph, b"", &all_mapped())
 }
 
 // Loads no bytes at all for two graphs without edges, the old one of this order, which both have this label at 63 and no other.
@@ -337,14 +338,10 @@ fn load_nothing(
 ) -> io::Result<()> {
     let mut new = Tables::empty();
     new.labels[63] = label;
-    let problem = Problem {
-        old: Graph {
-            order: old_order,
-            ..new.graph()
-        },
-        new: new.graph(),
-        substitutes,
-    };
+    let mut old = Tables::empty();
+    old.order = old_order;
+    old.labels[63] = label;
+    let problem = tables::lend(&old, &new, substitutes);
     load(rt, name, problem, false, b"")
 }
 
@@ -365,14 +362,12 @@ fn save_three(
 ) -> io::Result<()> {
     let mut three = Tables::loose(3);
     three.edges[1] = edge;
-    let problem = Problem {
-        old: three.graph(),
-        new: three.graph(),
-        substitutes,
+    let problem = tables::lend(&three, &three, substitutes);
+    let mut checkpoint = Checkpoint {
+        steps: 9,
+        depth,
+        ..Checkpoint::fresh(0)
     };
-    let mut checkpoint = Checkpoint::fresh(0);
-    checkpoint.steps = 9;
-    checkpoint.depth = depth;
     checkpoint.path[..3].fill(255);
     print!(rt; "{name}")?;
     save(rt, problem, false, checkpoint, out)?;
@@ -495,14 +490,12 @@ fn save_one_visit(rt: &impl Print, name: &str, substitutes: &[u8], due: &[u8]) -
     let old = Tables::loose(1);
     let mut new = Tables::loose(1);
     new.labels[0] = 9;
-    let problem = Problem {
-        old: old.graph(),
-        new: new.graph(),
-        substitutes,
+    let problem = tables::lend(&old, &new, substitutes);
+    let checkpoint = Checkpoint {
+        steps: 1,
+        depth: 1,
+        ..Checkpoint::fresh(0)
     };
-    let mut checkpoint = Checkpoint::fresh(0);
-    checkpoint.steps = 1;
-    checkpoint.depth = 1;
     let mut out = [170u8; 300];
     print!(rt; "{name}")?;
     save(rt, problem, false, checkpoint, &mut out)?;
@@ -614,15 +607,13 @@ fn connected_chains(rt: &impl Print) -> io::Result<()> {
 // Saves a finished checkpoint that holds three vertices without an edge.
 fn save_loose(rt: &impl Print, name: &str, connected: bool, out: &mut [u8]) -> io::Result<()> {
     let three = Tables::loose(3);
-    let problem = Problem {
-        old: three.graph(),
-        new: three.graph(),
-        substitutes: b"",
+    let problem = tables::lend(&three, &three, b"");
+    let mut checkpoint = Checkpoint {
+        steps: 9,
+        finished: true,
+        holds: true,
+        ..Checkpoint::fresh(0)
     };
-    let mut checkpoint = Checkpoint::fresh(0);
-    checkpoint.steps = 9;
-    checkpoint.finished = true;
-    checkpoint.holds = true;
     checkpoint.incumbent[..3].copy_from_slice(b"\x00\x01\x02");
     print!(rt; "{name}")?;
     save(rt, problem, connected, checkpoint, out)?;

@@ -3,6 +3,7 @@
 ghost use Rattle.std.specs.Prelude.{◌≤◌};
 
 use graph::{Graph, Label};
+use problem::Problem;
 use std::io;
 
 #[derive(Drop)]
@@ -42,11 +43,21 @@ impl Tables {
         Ok(tables)
     }
 
-    pub fn graph(&self) -> Graph<'_> {
+    fn graph(&self) -> Graph<'_> {
         Graph {
             order: self.order,
             labels: &self.labels,
             edges: &self.edges,
         }
+    }
+}
+
+pub fn lend<'a>(old: &'a Tables, new: &'a Tables, substitutes: &'a [u8]) -> Problem<'a> {
+    let old = old.graph();
+    let new = new.graph();
+    Problem {
+        old,
+        new,
+        substitutes,
     }
 }

@@ -6,7 +6,6 @@
 mod tables;
 
 use answers::Refusal;
-use problem::Problem;
 use std::io;
 use tables::Tables;
 
@@ -19,11 +18,7 @@ fn branch(
     substitutes: &[u8],
     minimum: u8,
 ) -> io::Result<()> {
-    let problem = Problem {
-        old: old.graph(),
-        new: new.graph(),
-        substitutes,
-    };
+    let problem = tables::lend(old, new, substitutes);
     match clique::branch(problem, minimum) {
         Ok(Some(mapping)) => {
             print!(rt; "{name}: mapping")?;

@@ -1,6 +1,7 @@
 // The tables of a graph, to be read, changed and lent.
 
 use graph::{Graph, Label};
+use problem::Problem;
 use std::io;
 
 #[derive(Drop)]
@@ -30,11 +31,21 @@ impl Tables {
         Ok(tables)
     }
 
-    pub fn graph(&self) -> Graph<'_> {
+    fn graph(&self) -> Graph<'_> {
         Graph {
             order: self.order,
             labels: &self.labels,
             edges: &self.edges,
         }
+    }
+}
+
+pub fn lend<'a>(old: &'a Tables, new: &'a Tables, substitutes: &'a [u8]) -> Problem<'a> {
+    let old = old.graph();
+    let new = new.graph();
+    Problem {
+        old,
+        new,
+        substitutes,
     }
 }
