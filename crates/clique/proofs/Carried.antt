@@ -1,6 +1,5 @@
 -- What the code carries: a path grows by one decided row, and a path that decides every row is held where it has enough pairs.
 use mathlib.Core.Path.{◌≡◌, refl, sym, ap, ◌∙◌}
-use mathlib.Core.Bool.{true, cond}
 use mathlib.Core.Logic.{◌≢◌, ⊎_elim}
 use mathlib.Core.List.{List, [], ◌∷◌, ◌++◌}
 use mathlib.Core.Option.{Option, none, some}
@@ -11,12 +10,13 @@ use native.Mathlib.Omega.{arith}
 use lib.ListN.{length, set, take, drop, replicate, take-append-drop}
 use lib.Seq.{length-take-le, drop-drop, drop-set-lt, get_or-set_other, get_or-set_same, take-suc-set}
 use borrow.Author.Tests.{lt-leb, le-leb}
-use Rattle.answers.specs.Answer.{accepted}
 use Rattle.mapping.specs.Common.{unmapped, size}
 use Rattle.mapping.specs.Check.{EntriesBelow}
 use Rattle.mapping.proofs.Size.{size_nil, size_cons, size_append, size_max, size_none, counted_mapped}
 use Rattle.search_tree.specs.Walk.{cutoff}
+use Rattle.std.specs.Prelude.{Some, Ok}
 use Rattle.clique.specs.declared.branching.Incumbent.{Incumbent}
+use Rattle.clique.specs.Answers.{called_of}
 use Rattle.clique.specs.Branching.{keep_larger}
 use Rattle.clique.specs.Call.{padded, called_with}
 use Rattle.clique.specs.Carried.{Decided, incumbent_as}
@@ -89,12 +89,12 @@ module _ (minimum : ℕ) (incumbent : Option (List ℕ)) (l : List ℕ) {pairs :
 
   -- One with enough is held.
   pub enough_pairs : {held : Incumbent} → held ≡ incumbent_as minimum incumbent → held.cutoff ≤ pairs → {path : List ℕ} → path ≡ padded l
-      → record { cutoff = pairs + 1; holds = true; mapping = path } ≡ incumbent_as minimum (keep_larger minimum l incumbent)
+      → record { cutoff = pairs + 1; mapping = Some path } ≡ incumbent_as minimum (keep_larger minimum l incumbent)
   unfolding keep_larger
   enough_pairs e h same = rw (le-leb (cutoff minimum incumbent) (size l) (omega (arith, held_cutoff e)), same, counted) refl
 
 -- What is held is what the call returns.
 pub held_called : (minimum : ℕ) (incumbent : Option (List ℕ)) {held : Incumbent} → held ≡ incumbent_as minimum incumbent
-    → record { answer = cond held.holds (accepted 1) (accepted 0); mapping = held.mapping } ≡ called_with incumbent
+    → called_of (Ok held.mapping) ≡ called_with incumbent
 held_called minimum none e = rw e
 held_called minimum (some l) e = rw e

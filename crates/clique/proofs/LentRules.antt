@@ -12,7 +12,8 @@ use borrow.Author.Tests.{ltb-true}
 use Rattle.bitset.specs.Members.{member, set_of}
 use Rattle.bitset.proofs.SetOf.{member_set_of, member_set_of_above}
 use Rattle.problem.specs.Problem.{SoundProblem, allowed, consistent}
-use Rattle.problem.specs.Lent.{Tables, lent}
+use Rattle.problem.specs.declared.Problem.{Problem as LentProblem}
+use Rattle.problem.specs.Lent.{lent}
 use Rattle.problem.specs.VertexSets.{Allowing}
 use Rattle.problem.proofs.VertexSets.{allowing_allowed}
 use Rattle.problem.proofs.Consistent.{allowed_facts}
@@ -42,14 +43,13 @@ same_choices R Q minimum k path same (v ∷ cs) held =
     ∙ same_choices R Q minimum k path same cs (branch_row Q minimum (2 * k) (extend path v) held)
     ∙ sym (choices_turns Q minimum path held k v cs)
 
-module _ (orders : List ℕ) (labels edges : Tables) (substitutes : List ℕ) {sets : List ℕ} (sound : SoundProblem (lent orders labels edges substitutes))
-    (made : Allowing labels edges substitutes sets) where
+module _ (p : LentProblem) {sets : List ℕ} (sound : SoundProblem (lent p)) (made : Allowing p sets) where
   -- a row's set is that of the vertices that it may lie on
-  set_member : (r v : ℕ) → r < get_or orders 0 0 → member (get_or sets r 0) v ≡ member (set_of 64 (allowed (lent orders labels edges substitutes) r)) v
-  set_member r v h = ap (λ (set : ℕ). member set v) ((allowing_allowed orders labels edges substitutes sound made).word r h)
+  set_member : (r v : ℕ) → r < p.old.order → member (get_or sets r 0) v ≡ member (set_of 64 (allowed (lent p) r)) v
+  set_member r v h = ap (λ (set : ℕ). member set v) ((allowing_allowed p sound made).word r h)
 
   -- What the search asks of what it is lent.
-  pub lent_small : get_or orders 0 0 ≤ 8 → Small orders sets edges
+  pub lent_small : p.old.order ≤ 8 → Small p sets
   lent_small few = record {
     tables = (sound.old_sound.edges_length, sound.new_sound.edges_length);
     old_max = few;
@@ -57,42 +57,42 @@ module _ (orders : List ℕ) (labels edges : Tables) (substitutes : List ℕ) {s
     new_vertices = λ r v row e. new_vertex r v row e (dec_lt v 64);
   }
     where
-      new_vertex : (r v : ℕ) → r < get_or orders 0 0 → member (get_or sets r 0) v ≡ true → Dec (v < 64) → v < get_or orders 1 0
+      new_vertex : (r v : ℕ) → r < p.old.order → member (get_or sets r 0) v ≡ true → Dec (v < 64) → v < p.new.order
       new_vertex r v row e d =
-          let P = lent orders labels edges substitutes in
+          let P = lent p in
           (allowed_facts P r v (inside (allowed P r) v d (sym (set_member r v row) ∙ e))).0
 
   -- a row has the same candidates
-  same_candidate : (path : List ℕ) (r v : ℕ) → r < get_or orders 0 0
-      → candidate (lent_rules orders sets edges) path r v ≡ candidate (rules_of (lent orders labels edges substitutes)) path r v
+  same_candidate : (path : List ℕ) (r v : ℕ) → r < p.old.order
+      → candidate (lent_rules p sets) path r v ≡ candidate (rules_of (lent p)) path r v
   unfolding candidate consistent
-  same_candidate path r v h = ap (λ (b : Bool). b && all_below (length path) (fits (lent_rules orders sets edges) path r v)) (go (ltb v (get_or orders 1 0)) refl)
+  same_candidate path r v h = ap (λ (b : Bool). b && all_below (length path) (fits (lent_rules p sets) path r v)) (go (ltb v (p.new.order)) refl)
     where
-      go : (b : Bool) → ltb v (get_or orders 1 0) ≡ b
-          → (b && member (get_or sets r 0) v) ≡ (b && allowed (lent orders labels edges substitutes) r v)
+      go : (b : Bool) → ltb v (p.new.order) ≡ b
+          → (b && member (get_or sets r 0) v) ≡ (b && allowed (lent p) r v)
       go true e =
           set_member r v h
-          ∙ member_set_of 64 (allowed (lent orders labels edges substitutes) r) v (omega (arith, ltb-true v (get_or orders 1 0) e, sound.new_sound.order_max))
+          ∙ member_set_of 64 (allowed (lent p) r) v (omega (arith, ltb-true v (p.new.order) e, sound.new_sound.order_max))
       go false e = refl
 
   -- and so the same choices
-  same_next : (path : List ℕ) → length path < get_or orders 0 0
-      → choices (lent_rules orders sets edges) path ≡ choices (rules_of (lent orders labels edges substitutes)) path
+  same_next : (path : List ℕ) → length path < p.old.order
+      → choices (lent_rules p sets) path ≡ choices (rules_of (lent p)) path
   unfolding choices candidates
-  same_next path h = ap (λ (l : List ℕ). l ++ (unmapped ∷ [])) (passing_agree (get_or orders 1 0) _ _ (λ v l. same_candidate path (length path) v h))
+  same_next path h = ap (λ (l : List ℕ). l ++ (unmapped ∷ [])) (passing_agree (p.new.order) _ _ (λ v l. same_candidate path (length path) v h))
 
   module _ (minimum : ℕ) where
     -- with k rows left
-    same_row : (k : ℕ) (path : List ℕ) (held : Option (List ℕ)) → length path + k ≡ get_or orders 0 0
-        → branch_row (lent_rules orders sets edges) minimum (2 * k) path held
-        ≡ branch_row (rules_of (lent orders labels edges substitutes)) minimum (2 * k) path held
+    same_row : (k : ℕ) (path : List ℕ) (held : Option (List ℕ)) → length path + k ≡ p.old.order
+        → branch_row (lent_rules p sets) minimum (2 * k) path held
+        ≡ branch_row (rules_of (lent p)) minimum (2 * k) path held
     same_row zero path held all = row_end _ minimum path held ∙ sym (row_end _ minimum path held)
     same_row (suc k) path held all =
         row_turns _ minimum path held k
-        ∙ ap (λ (cs : List ℕ). branch_choices (lent_rules orders sets edges) minimum (2 * k + 1) path cs held) (same_next path (omega arith))
+        ∙ ap (λ (cs : List ℕ). branch_choices (lent_rules p sets) minimum (2 * k + 1) path cs held) (same_next path (omega arith))
         ∙ same_choices _ _ minimum k path (λ v h. same_row k (extend path v) h (simp length-append (omega arith))) _ held
         ∙ sym (row_turns _ minimum path held k)
 
     -- The whole search.
-    pub lent_branch : branch_row (lent_rules orders sets edges) minimum (2 * get_or orders 0 0) [] none ≡ branch (lent orders labels edges substitutes) minimum
-    lent_branch = same_row (get_or orders 0 0) [] none (omega arith)
+    pub lent_branch : branch_row (lent_rules p sets) minimum (2 * p.old.order) [] none ≡ branch (lent p) minimum
+    lent_branch = same_row (p.old.order) [] none (omega arith)

@@ -5,90 +5,63 @@
 mod branching;
 mod candidates;
 
-ghost use Rattle.std.specs.Prelude.{◌≡◌, List, ℕ};
-ghost use Rattle.std.proofs.Math.Option.{Option};
+ghost use Rattle.std.specs.Prelude.{◌≡◌};
 ghost use Rattle.problem.specs.Lent.{lent};
-ghost use Rattle.answers.specs.Answer.{refusal_number};
-ghost use Rattle.clique.specs.Answers.{clique_answer_of, called_of};
-ghost use Rattle.clique.specs.Carried.{incumbent_as};
-ghost use Rattle.clique.specs.Call.{called_with, clique_call};
+ghost use Rattle.clique.specs.declared.CliqueError.TheVariants.{Flawed as OfProblem};
+ghost use Rattle.clique.specs.Answers.{clique_refusal, called_of};
+ghost use Rattle.clique.specs.Call.{clique_call};
 
-use branching::Incumbent;
-use problem::{Edges, Labels, Orders, ProblemAnswer, ProblemFlaw};
+use answers::Refusal;
+use candidates::Allowed;
+use problem::{Problem, ProblemFlaw};
 
 // The greatest old order: the search has no bound test and no budget.
 pub const MAX_OLD: usize = 8;
 
-// The answer of `branch`.
-#[derive(Clone, Copy)]
-pub enum CliqueAnswer {
-    Held,
-    NothingHeld,
+// Why a call is refused.
+#[derive(Clone, Copy, Debug, PartialEq, Eq)]
+pub enum CliqueError {
     Flawed(ProblemFlaw),
     ManyVertices,
 }
 
-// The answer, and the mapping that is held: one entry for each old vertex, and 0 after them; all 0 where nothing is held.
-#[derive(Clone, Copy)]
-pub struct Branched {
-    pub answer: CliqueAnswer,
-    pub mapping: [u8; MAX_OLD],
-}
+impl Refusal for CliqueError {
+    ghost says = { clique_refusal };
 
-// The document's number of a refusal, and 0 where the search ended.
-pub fn clique_number(answer: CliqueAnswer) -> u8
-    ensures { result ≡ refusal_number (clique_answer_of answer) }
-{
-    match answer {
-        CliqueAnswer::Held => 0,
-        CliqueAnswer::NothingHeld => 0,
-        CliqueAnswer::Flawed(flaw) => problem::problem_flaw_number(flaw),
-        CliqueAnswer::ManyVertices => 25,
-    }
-}
-
-// What is held at the end.
-fn answered(held: Incumbent) -> Branched
-    ensures { (minimum : ℕ) (incumbent : Option (List ℕ)) → held ≡ incumbent_as minimum incumbent → called_of result ≡ called_with incumbent }
-{
-    let holds = held.holds;
-    let mapping = held.mapping;
-    if holds {
-        return Branched {
-            answer: CliqueAnswer::Held,
-            mapping,
-        };
-    }
-    Branched {
-        answer: CliqueAnswer::NothingHeld,
-        mapping,
-    }
-}
-
-// The first of the largest common subgraphs of at least `minimum` pairs, under the substitutes.
-pub fn branch<'a>(
-    orders: Orders,
-    labels: Labels<'a>,
-    edges: Edges<'a>,
-    substitutes: &[u8],
-    minimum: u8,
-) -> Branched
-    ensures { called_of result ≡ clique_call (lent orders labels.entry edges.entry substitutes.now) minimum }
-{
-    match problem::check_problem(orders, labels, edges, substitutes) {
-        ProblemAnswer::Flawed(flaw) => Branched {
-            answer: CliqueAnswer::Flawed(flaw),
-            mapping: [0u8; MAX_OLD],
-        },
-        ProblemAnswer::Sound => {
-            if MAX_OLD < orders[0] {
-                return Branched {
-                    answer: CliqueAnswer::ManyVertices,
-                    mapping: [0u8; MAX_OLD],
-                };
-            }
-            let allowed = problem::allowed_sets(labels, edges, substitutes);
-            answered(branching::branch(orders, &allowed, edges, minimum))
+    fn number(self) -> u8 {
+        match self {
+            CliqueError::Flawed(flaw) => flaw.number(),
+            CliqueError::ManyVertices => 25,
         }
     }
+
+    fn place(self) -> usize {
+        0
+    }
+}
+
+impl From<ProblemFlaw> for CliqueError {
+    ghost from_gives = { λ flaw r. r ≡ OfProblem flaw };
+
+    fn from(flaw: ProblemFlaw) -> CliqueError {
+        CliqueError::Flawed(flaw)
+    }
+}
+
+// The first of the largest common subgraphs of at least `minimum` pairs, under the substitutes, if there is one: one entry for each old vertex, and 0 after
+// them.
+pub fn branch<'a>(problem: Problem<'a>, minimum: u8) -> Result<Option<[u8; MAX_OLD]>, CliqueError>
+    ensures { called_of result ≡ clique_call (lent problem.entry) minimum }
+{
+    problem.check()?;
+    if MAX_OLD < problem.old.order {
+        return Err(CliqueError::ManyVertices);
+    }
+    let sets = problem.allowed_sets();
+    let allowed = Allowed {
+        problem,
+        sets: &sets,
+    };
+    let held = allowed.branch(minimum);
+    Ok(held.mapping)
 }

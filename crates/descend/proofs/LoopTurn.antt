@@ -1,12 +1,10 @@
 -- The loop of a descent call, a search call a turn: what is left to do from here, after the visits made, is the whole call (`CallTurn`).
 use mathlib.Core.Path.{◌≡◌, refl, sym, ap, ◌∙◌}
 use mathlib.Core.Bool.{Bool, true, false, true≢false}
-use mathlib.Core.List.{List, [], ◌∷◌}
+use mathlib.Core.List.{List, []}
 use Prim.Native.Nat.{ℕ, ◌+◌, ◌-◌, ◌^◌, ◌≤◌, ◌<◌}
 use native.Mathlib.Omega.{arith}
 use native.Mathlib.Nat.{zero-add, add_assoc}
-use denote.Enum.Declared.{tag_of}
-use types.Run.{OneOf, miss}
 use lib.ListN.{length}
 use Rattle.answers.specs.Answer.{Answer, accepted, refused, is_refused, value_of}
 use Rattle.problem.specs.Problem.{Problem}
@@ -17,11 +15,12 @@ use Rattle.checkpoint.specs.declared.Checkpoint.{Checkpoint}
 use Rattle.checkpoint.specs.Checkpoints.{fresh_checkpoint, checkpoint_of, state_of}
 use Rattle.checkpoint.proofs.Padding.{padded_length}
 use Rattle.search.specs.declared.Searched.{Searched}
-use Rattle.search.specs.declared.SearchAnswer.{SearchAnswer}
-use Rattle.search.specs.Answers.{search_answer, called_of}
+use Rattle.std.specs.Prelude.{Ok, Err}
+use Rattle.search.specs.declared.SearchError.{SearchError}
+use Rattle.search.proofs.SearchErrors.{no_ceiling}
+use Rattle.search.specs.Answers.{search_refusal, search_answer, called_of}
 use Rattle.search.specs.Call as SearchCall
 use Rattle.search.specs.Call.{Called, cleared, refuse, search_call}
-use Rattle.search.specs.contracts.SearchAnswer as search_tags
 use Rattle.search.proofs.CallRefusals.{Taken, CallWays, refuses, accepts, call_ways}
 use Rattle.descend.specs.Descent.{is_exhausted, lowered, descent_ceiling}
 use Rattle.descend.specs.Call.{Descended, descend_call}
@@ -47,14 +46,6 @@ fresh_long minimum = padded_length [] (omega arith)
 pub fresh_minimum : {c : Checkpoint} (minimum : ℕ) → c ≡ fresh_checkpoint minimum → c.minimum ≡ minimum
 unfolding checkpoint_of
 fresh_minimum minimum e = ap (λ (c : Checkpoint). c.minimum) e
-
--- the arm `_`: 1 to 4 are the tags of the answers that are no ceiling
-pub no_ceiling : (a : SearchAnswer) (top : ℕ) → OneOf (1 ∷ 2 ∷ 3 ∷ 4 ∷ []) (tag_of search_tags.the_type a) → search_answer a ≡ accepted top → ⊥
-no_ceiling (SearchAnswer.Ceiling n) top k e = miss (1 ∷ 2 ∷ 3 ∷ 4 ∷ []) 0 tt k
-no_ceiling (SearchAnswer.Flawed f) top k e = true≢false (cc)
-no_ceiling SearchAnswer.OutOfShape top k e = true≢false (cc)
-no_ceiling SearchAnswer.FewWords top k e = true≢false (cc)
-no_ceiling SearchAnswer.ManySteps top k e = true≢false (cc)
 
 -- what goes on: the rest of a call from checkpoint c with a budget
 pub record Going (connected : Bool) (P : Problem) (floor : ℕ) (c : Checkpoint) (budget : ℕ) (workspace : List ℕ) (at : Checkpoint) (left visits : ℕ) (words : List ℕ) : Type 0 where
@@ -116,8 +107,8 @@ module _ {connected : Bool} {P : Problem} {floor : ℕ} {c : Checkpoint} {budget
     ended answer = ending answer (called_of r words')
 
     -- A refusal is the whole call's.
-    pub turn_refused : OneOf (1 ∷ 2 ∷ 3 ∷ 4 ∷ []) (tag_of search_tags.the_type r.answer) → ended (search_answer r.answer) ≡ descend_call connected P floor c budget workspace
-    turn_refused arm = go (call_ways connected P at left words)
+    pub turn_refused : (e : SearchError) → r.answer ≡ Err e → ended (search_refusal e) ≡ descend_call connected P floor c budget workspace
+    turn_refused error arm = ap (λ (a : Answer). ended a) (ap search_answer (sym arm)) ∙ go (call_ways connected P at left words)
       where
         go : CallWays connected P at left words → ended (search_answer r.answer) ≡ descend_call connected P floor c budget workspace
         go (refuses number e) =
@@ -126,9 +117,9 @@ module _ {connected : Bool} {P : Problem} {floor : ℕ} {c : Checkpoint} {budget
             ∙ ap (λ (n : ℕ). record { answer = refused number; visits = visits + n; checkpoint = at; workspace = words }) none
             ∙ ap (plus visits) (sym (call_refuses connected P at left words number e floor))
             ∙ going.rest
-        go (accepts call) = absurd (no_ceiling r.answer _ arm (ap (λ (q : Called). q.answer) (arrived call)))
+        go (accepts call) = absurd (no_ceiling error _ arm (ap (λ (q : Called). q.answer) (arrived call)))
 
-    module _ (top : ℕ) (arm : r.answer ≡ SearchAnswer.Ceiling top) where
+    module _ (top : ℕ) (arm : r.answer ≡ Ok top) where
       -- A ceiling comes of an accepted call.
       pub turn_accepted : Taken connected P at left words
       turn_accepted = go (call_ways connected P at left words)

@@ -1,12 +1,10 @@
 -- The start of a descent, by a search call that makes no visit: refused for the graphs or the list, or with a ceiling one above the root's upper bound.
 use mathlib.Core.Path.{◌≡◌, refl, sym, ap, ◌∙◌}
 use mathlib.Core.Bool.{false, true≢false}
-use mathlib.Core.List.{List, [], ◌∷◌}
+use mathlib.Core.List.{List, []}
 use mathlib.Core.Option.{none}
 use Prim.Native.Nat.{ℕ, ◌+◌, ◌-◌, ◌≤◌, min, max}
 use native.Mathlib.Omega.{arith}
-use denote.Enum.Declared.{tag_of}
-use types.Run.{OneOf}
 use lib.Dec.{lit<}
 use lib.ListN.{length}
 use Rattle.answers.specs.Answer.{Answer, passed, accepted, refused, refused_at, is_refused, value_of}
@@ -20,15 +18,15 @@ use Rattle.checkpoint.specs.declared.Checkpoint.{Checkpoint}
 use Rattle.checkpoint.specs.Checkpoints.{fresh_checkpoint, checkpoint_of, state_of}
 use Rattle.checkpoint.specs.Checking.{checkpoint_answer}
 use Rattle.search.specs.declared.Searched.{Searched}
-use Rattle.search.specs.declared.SearchAnswer.{SearchAnswer}
+use Rattle.std.specs.Prelude.{Ok, Err}
+use Rattle.search.specs.declared.SearchError.{SearchError}
+use Rattle.search.proofs.SearchErrors.{no_ceiling}
 use Rattle.search.specs.Answers.{search_answer, called_of}
 use Rattle.search.specs.Call.{Called, words_needed, search_call}
-use Rattle.search.specs.contracts.SearchAnswer as search_tags
 use Rattle.search.proofs.WalkCall.{fresh_call}
 use Rattle.descend.specs.Descent.{fresh_at, start_of, lowered, descent_ceiling}
 use Rattle.descend.specs.Call.{refuse_start, start_call}
 use Rattle.descend.specs.Answers.{started_of}
-use Rattle.descend.proofs.LoopTurn.{no_ceiling}
 
 -- The ceiling of a search that has not begun: the root is its only open node.
 pub fresh_ceiling : (R : Rules) (minimum : ℕ) → ceiling R minimum fresh ≡ max minimum (1 + upper_bound R [])
@@ -67,15 +65,15 @@ module _ (P : Problem) (floor : ℕ) (words : List ℕ) (room : words_needed ≤
       called = rw fresh-is at made
 
       -- A refusal is the start's.
-      pub start_refused : OneOf (1 ∷ 2 ∷ 3 ∷ 4 ∷ []) (tag_of search_tags.the_type r.answer) → (c : Checkpoint) → c ≡ fresh_checkpoint floor
-          → started_of (record { answer = r.answer; checkpoint = c }) ≡ start_call P floor
-      start_refused arm c same = go ways
+      pub start_refused : (e : SearchError) → r.answer ≡ Err e → (c : Checkpoint) → c ≡ fresh_checkpoint floor
+          → started_of (record { answer = Err e; checkpoint = c }) ≡ start_call P floor
+      start_refused e arm c same = go ways
         where
-          go : Ways → started_of (record { answer = r.answer; checkpoint = c }) ≡ start_call P floor
-          go (refuses number e is) = (λ i. record { answer = (ap (λ (q : Called). q.answer) called ∙ e) i; checkpoint = same i }) ∙ sym is
-          go (accepts sound e is) = absurd (no_ceiling r.answer _ arm (ap (λ (q : Called). q.answer) called ∙ e))
+          go : Ways → started_of (record { answer = Err e; checkpoint = c }) ≡ start_call P floor
+          go (refuses number told is) = (λ i. record { answer = (ap search_answer (sym arm) ∙ ap (λ (q : Called). q.answer) called ∙ told) i; checkpoint = same i }) ∙ sym is
+          go (accepts sound told is) = absurd (no_ceiling e _ arm (ap (λ (q : Called). q.answer) called ∙ told))
 
-      module _ (top : ℕ) (arm : r.answer ≡ SearchAnswer.Ceiling top) where
+      module _ (top : ℕ) (arm : r.answer ≡ Ok top) where
         answered : root.answer ≡ accepted top
         answered = sym (ap (λ (q : Called). q.answer) called) ∙ ap search_answer arm
 
@@ -91,11 +89,11 @@ module _ (P : Problem) (floor : ℕ) (words : List ℕ) (room : words_needed ≤
         pub start_accepted : (minimum own low : ℕ) (c : Checkpoint)
             → minimum ≡ max floor (min (min P.old.order P.new.order) (top - 1)) → c ≡ fresh_checkpoint minimum → own ≡ max minimum top
             → low ≡ lowered c.minimum (state_of P.old.order c).incumbent own
-            → started_of (record { answer = SearchAnswer.Ceiling low; checkpoint = c }) ≡ start_call P floor
+            → started_of (record { answer = Ok low; checkpoint = c }) ≡ start_call P floor
         unfolding start_of descent_ceiling state_of checkpoint_of
         start_accepted minimum own low c first same most low-is = go ways
           where
-            go : Ways → started_of (record { answer = SearchAnswer.Ceiling low; checkpoint = c }) ≡ start_call P floor
+            go : Ways → started_of (record { answer = Ok low; checkpoint = c }) ≡ start_call P floor
             go (refuses number e is) = absurd (true≢false (ap is_refused (sym e ∙ answered)))
             go (accepts sound e is) =
                 let bound : top ≡ 1 + upper_bound (rules_of P) [] = ap value_of (sym answered ∙ e) in

@@ -11,42 +11,22 @@ ghost use Rattle.descend.specs.Call.{start_call, descend_call};
 ghost use Rattle.descend.specs.Answers.{started_of, descended_of};
 
 use checkpoint::Checkpoint;
-use problem::{Edges, Labels, Orders};
-use search::{SearchAnswer, Searched, WORDS};
+use problem::Problem;
+use search::{SearchError, Searched, WORDS};
 
 // The answer of a call, the visits that it made, and the checkpoint after it.
 #[derive(Clone, Copy)]
 pub struct Descended {
-    pub answer: SearchAnswer,
+    pub answer: Result<usize, SearchError>,
     pub visits: u64,
     pub checkpoint: Checkpoint,
-}
-
-fn smaller(a: usize, b: usize) -> usize
-    ensures { result ≡ min a b }
-{
-    if a < b { a } else { b }
-}
-
-fn larger(a: usize, b: usize) -> usize
-    ensures { result ≡ max a b }
-{
-    if a < b { b } else { a }
 }
 
 // Whether the search is finished with nothing held, above the floor.
 fn is_exhausted(floor: u8, checkpoint: Checkpoint) -> bool
     ensures { result ≡ is_exhausted floor checkpoint.minimum checkpoint.finished checkpoint.holds }
 {
-    let finished = checkpoint.finished;
-    let holds = checkpoint.holds;
-    if finished {
-        if holds {
-            return false;
-        }
-        return floor < checkpoint.minimum;
-    }
-    false
+    checkpoint.finished && !checkpoint.holds && floor < checkpoint.minimum
 }
 
 // The ceiling of a descent at a checkpoint, from its search's.
@@ -55,14 +35,13 @@ fn lowered(order: usize, checkpoint: Checkpoint, top: usize) -> usize
     ensures { result ≡ lowered_to checkpoint.minimum (state_of order checkpoint).incumbent top }
 {
     let minimum = checkpoint.minimum as usize;
-    let holds = checkpoint.holds;
-    if holds {
+    if checkpoint.holds {
         let incumbent = checkpoint.incumbent;
         if minimum < mapping::mapping_size(&incumbent[..order]) {
             return top;
         }
     }
-    smaller(minimum + 1, top)
+    (minimum + 1).min(top)
 }
 
 // The largest conceivable minimum, from both orders and the root's upper bound, but not below the floor.
@@ -70,45 +49,29 @@ fn first_minimum(old_order: usize, new_order: usize, bound: usize, floor: u8) ->
     requires { old_order ≤ 64 }
     ensures { result ≡ max floor (min (min old_order new_order) bound) }
 {
-    let most = smaller(smaller(old_order, new_order), bound);
-    larger(floor as usize, most) as u8
+    let most = old_order.min(new_order).min(bound);
+    (floor as usize).max(most) as u8
 }
 
 // The start of a descent: the ceiling there, and the fresh checkpoint of its first minimum.
-pub fn start<'a>(
-    orders: Orders,
-    labels: Labels<'a>,
-    edges: Edges<'a>,
-    substitutes: &[u8],
-    floor: u8,
-) -> Searched
-    ensures { started_of result ≡ start_call (lent orders labels.entry edges.entry substitutes.now) floor }
+pub fn start<'a>(problem: Problem<'a>, floor: u8) -> Searched
+    ensures { started_of result ≡ start_call (lent problem.entry) floor }
 {
     let mut workspace = [0u64; WORDS];
     // from minimum 0, before any visit, a ceiling is one above the root's upper bound
-    let root = search::search(
-        orders,
-        labels,
-        edges,
-        substitutes,
-        false,
-        Checkpoint::fresh(0),
-        0,
-        &mut workspace,
-    );
-    let answer = root.answer;
-    match answer {
-        SearchAnswer::Ceiling(top) => {
-            let minimum = first_minimum(orders[0], orders[1], top - 1, floor);
+    let root = search::search(problem, false, Checkpoint::fresh(0), 0, &mut workspace);
+    match root.answer {
+        Ok(top) => {
+            let minimum = first_minimum(problem.old.order, problem.new.order, top - 1, floor);
             let checkpoint = Checkpoint::fresh(minimum);
-            let own = larger(minimum as usize, top);
+            let own = (minimum as usize).max(top);
             Searched {
-                answer: SearchAnswer::Ceiling(lowered(orders[0], checkpoint, own)),
+                answer: Ok(lowered(problem.old.order, checkpoint, own)),
                 checkpoint,
             }
         }
-        _ => Searched {
-            answer,
+        Err(error) => Searched {
+            answer: Err(error),
             checkpoint: Checkpoint::fresh(floor),
         },
     }
@@ -116,10 +79,7 @@ pub fn start<'a>(
 
 // One call of a descent: as many visits as the budget says, or until it is done, and the ceiling there. It is done where the checkpoint left is finished.
 pub fn descend<'a>(
-    orders: Orders,
-    labels: Labels<'a>,
-    edges: Edges<'a>,
-    substitutes: &[u8],
+    problem: Problem<'a>,
     connected: bool,
     floor: u8,
     checkpoint: Checkpoint,
@@ -127,31 +87,21 @@ pub fn descend<'a>(
     workspace: &mut [u64],
 ) -> Descended
     ensures { descended_of result workspace.new
-        ≡ descend_call connected (lent orders labels.entry edges.entry substitutes.now) floor checkpoint budget workspace.old }
+        ≡ descend_call connected (lent problem.entry) floor checkpoint budget workspace.old }
 {
     let mut at = checkpoint;
     let mut left = budget;
     let mut visits: u64 = 0;
     loop {
-        let searched = search::search(
-            orders,
-            labels,
-            edges,
-            substitutes,
-            connected,
-            at,
-            left,
-            workspace,
-        );
-        let answer = searched.answer;
+        let searched = search::search(problem, connected, at, left, workspace);
         let reached = searched.checkpoint;
         let made = reached.steps - at.steps;
         visits += made;
-        match answer {
-            SearchAnswer::Ceiling(top) => {
+        match searched.answer {
+            Ok(top) => {
                 if !is_exhausted(floor, reached) {
                     return Descended {
-                        answer: SearchAnswer::Ceiling(lowered(orders[0], reached, top)),
+                        answer: Ok(lowered(problem.old.order, reached, top)),
                         visits,
                         checkpoint: reached,
                     };
@@ -159,9 +109,9 @@ pub fn descend<'a>(
                 at = Checkpoint::fresh(reached.minimum - 1);
                 left -= made;
             }
-            _ => {
+            Err(error) => {
                 return Descended {
-                    answer,
+                    answer: Err(error),
                     visits,
                     checkpoint: reached,
                 };

@@ -1,10 +1,11 @@
+pub mod Counts
 pub mod Length
+pub mod LongestFile
+pub mod MovedFile
+pub mod Moves
 pub mod PartialTables
 pub mod RoundTrip
 pub mod SameReading
 pub mod Stretches
 pub mod WriteSections
 pub mod Written
-pub mod LongestFile
-pub mod MovedFile
-pub mod Moves

@@ -1,25 +1,29 @@
 -- What the answers of writing and of moving say in 01's terms (01, "Refusals by place of checking", the row "Output" and those of the graph).
-use Rattle.answers.specs.Answer.{Answer, accepted, refused, refused_at}
-use Rattle.graph.specs.Answers.{flaw_number}
+use Rattle.std.specs.Prelude.{Option, Some, None, Result, ℕ}
+use Rattle.answers.specs.Answer.{Answer, accepted, refused, refused_at, counted}
+use Rattle.graph.specs.Answers.{flaw_refusal}
 use Rattle.graph_reader.specs.Answers.{fault_number}
-use Rattle.graph_writer.specs.declared.WriteAnswer.{WriteAnswer}
-use Rattle.graph_writer.specs.declared.WriteAnswer.TheVariants as write
-use Rattle.graph_writer.specs.declared.MoveAnswer.{MoveAnswer}
-use Rattle.graph_writer.specs.declared.MoveAnswer.TheVariants as move
-use Rattle.graph_writer.specs.declared.writer.Filled.{Filled}
-use Rattle.graph_writer.specs.declared.writer.Filled.TheVariants as filled
+use Rattle.graph_writer.specs.declared.WriteError.{WriteError}
+use Rattle.graph_writer.specs.declared.WriteError.TheVariants as write
+use Rattle.graph_writer.specs.declared.MoveError.{MoveError}
+use Rattle.graph_writer.specs.declared.MoveError.TheVariants as move
 
-abbrev pub filled_answer : Filled → Answer
-filled_answer (filled.Written n) = accepted n
-filled_answer filled.TooShort = refused 13
+-- how many bytes were written, or there was no room
+abbrev pub filled_answer : Option ℕ → Answer
+filled_answer (Some n) = accepted n
+filled_answer None = refused 13
 
-abbrev pub write_answer : WriteAnswer → Answer
-write_answer (write.Written n) = accepted n
-write_answer (write.Flawed f) = refused (flaw_number f)
-write_answer write.TooShort = refused 13
+abbrev pub write_refusal : WriteError → Answer
+write_refusal (write.Flawed f) = flaw_refusal f
+write_refusal write.TooShort = refused 13
+
+abbrev pub write_answer : Result ℕ WriteError → Answer
+write_answer r = counted write_refusal r
 
 -- a move hands on what its reader refuses, with the place
-abbrev pub move_answer : MoveAnswer → Answer
-move_answer (move.Moved n) = accepted n
-move_answer (move.Refused f at) = refused_at (fault_number f) at
-move_answer move.TooShort = refused 13
+abbrev pub move_refusal : MoveError → Answer
+move_refusal (move.Unreadable f at) = refused_at (fault_number f) at
+move_refusal move.TooShort = refused 13
+
+abbrev pub move_answer : Result ℕ MoveError → Answer
+move_answer r = counted move_refusal r

@@ -1,16 +1,16 @@
 -- Graph bytes moved from one edition to the other: 02, U6, "A move reads with the one edition's reader and writes as the other's writer does; refused, it
 -- changes no lent memory".
-use Rattle.std.specs.Prelude.{List, ℕ}
+use Rattle.std.specs.Prelude.{Result, List, ℕ}
 use Rattle.answers.specs.Answer.{when_accepted}
 use Rattle.answers.specs.Output.{Writing, fill}
 use Rattle.graph.specs.Graph.{graph}
 use Rattle.graph_reader.specs.declared.Edition.{Edition}
 use Rattle.graph_reader.specs.Reading.{Reading, read_file}
-use Rattle.graph_writer.specs.declared.MoveAnswer.{MoveAnswer}
+use Rattle.graph_writer.specs.declared.MoveError.{MoveError}
 use Rattle.graph_writer.specs.Answers.{move_answer}
 use Rattle.graph_writer.specs.Writing.{edition_bytes}
 
-abbrev pub moving_of : MoveAnswer → List ℕ → Writing
+abbrev pub moving_of : Result ℕ MoveError → List ℕ → Writing
 moving_of r buffer = record { answer = move_answer r; buffer = buffer }
 
 -- what becomes of a reading: the graph in the edition `to`, where the buffer has room, else 13, which so comes last

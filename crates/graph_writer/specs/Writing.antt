@@ -1,6 +1,6 @@
 -- The bytes of a graph, and writing them into a lent buffer: 01, "Charts", "The writer gives all parts, then the links with a < b by rising a,
 -- then rising b, then the end", and the row "Output" of the refusals; since 02, U4, "The writer takes a ≤ b"; since 02, U6, in either edition.
-use Rattle.std.specs.Prelude.{Bool, cond, not, ◌&&◌, List, [], ◌∷◌, ◌++◌, ℕ, ◌+◌, ◌*◌, ◌/◌, ◌%◌, leb, eqb}
+use Rattle.std.specs.Prelude.{Bool, cond, not, ◌&&◌, Option, Result, List, [], ◌∷◌, ◌++◌, ℕ, ◌+◌, ◌*◌, ◌/◌, ◌%◌, leb, eqb}
 use Rattle.bounded.specs.Below.{sum_below, run_below}
 use Rattle.answers.specs.Output.{Writing, write_if}
 use Rattle.graph.specs.Graph.{Graph, label, edge}
@@ -8,8 +8,7 @@ use Rattle.graph.specs.Soundness.{soundness}
 use Rattle.graph_reader.specs.declared.Edition.{Edition}
 use Rattle.graph_reader.specs.declared.Edition.TheVariants.{One, Two}
 use Rattle.graph_reader.specs.Editions.{opening, opening_width, vertex_width}
-use Rattle.graph_writer.specs.declared.WriteAnswer.{WriteAnswer}
-use Rattle.graph_writer.specs.declared.writer.Filled.{Filled}
+use Rattle.graph_writer.specs.declared.WriteError.{WriteError}
 use Rattle.graph_writer.specs.Answers.{write_answer, filled_answer}
 
 -- the command of a vertex with this label: "1, kind", or "3 and a two-byte kind, low first" (02, U6)
@@ -57,10 +56,10 @@ row_edge_count g a = sum_below g.order (λ b. cond (listed g a b) 1 0)
 unfoldable pub edge_count : Graph → ℕ
 edge_count g = sum_below g.order (row_edge_count g)
 
-abbrev pub writing_of : WriteAnswer → List ℕ → Writing
+abbrev pub writing_of : Result ℕ WriteError → List ℕ → Writing
 writing_of r buffer = record { answer = write_answer r; buffer = buffer }
 
-abbrev pub filled_of : Filled → List ℕ → Writing
+abbrev pub filled_of : Option ℕ → List ℕ → Writing
 filled_of r buffer = record { answer = filled_answer r; buffer = buffer }
 
 -- all of it: 10, 11 and 12 come before 13, and a refusal changes nothing

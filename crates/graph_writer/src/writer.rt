@@ -4,62 +4,34 @@ ghost use Rattle.std.specs.Prelude.{◌≡◌, [], ◌∷◌, ◌+◌, ◌*◌, 
 ghost use Rattle.std.proofs.lemmas.List.Edits.{sets};
 ghost use Rattle.bounded.specs.Below.{run_below};
 ghost use Rattle.answers.specs.Output.{fill};
-ghost use Rattle.graph.specs.Graph.{graph};
+ghost use Rattle.graph.specs.Lent.{lent_graph};
 ghost use Rattle.graph_reader.specs.Editions.{opening, opening_width, vertex_width, greatest_label, LabelsFit};
 ghost use Rattle.graph_writer.specs.Writing.{vertex_command, vertex_bytes, front_length, row_bytes, edition_bytes, listed, row_edge_count, edge_count, filled_of};
 
-use graph::{Label, MAX_ORDER};
+use graph::{Graph, Label, MAX_ORDER};
 use graph_reader::Edition;
 
-// What became of the bytes: how many were written, or there was no room.
-#[derive(Clone, Copy)]
-pub enum Filled {
-    Written(usize),
-    TooShort,
-}
-
 // Whether the writer gives the edge of a and b: where it is not null, and b is not before a.
-pub fn is_listed(edges: &[u8], a: usize, b: usize) -> bool
-    requires { (length edges.now ≡ 4096) × (a < 64) × (b < 64) }
-    ensures { result ≡ listed (graph 0 [] edges.now) a b }
+pub fn is_listed(graph: Graph<'_>, a: usize, b: usize) -> bool
+    requires { (length graph.edges.now ≡ 4096) × (a < 64) × (b < 64) }
+    ensures { result ≡ listed (lent_graph graph.entry) a b }
 {
-    if a <= b {
-        return edges[MAX_ORDER * a + b] != 0;
-    }
-    false
+    a <= b && graph.edges[MAX_ORDER * a + b] != 0
 }
 
-// How many edges of row a the writer gives. Labels play no part in it.
-pub fn count_row(order: usize, edges: &[u8], a: usize) -> usize
-    requires { (length edges.now ≡ 4096) × (order ≤ 64) × (a < 64) }
-    ensures { result ≡ row_edge_count (graph order [] edges.now) a }
+// How many edges of row a the writer gives.
+pub fn count_row(graph: Graph<'_>, a: usize) -> usize
+    requires { (length graph.edges.now ≡ 4096) × (graph.order ≤ 64) × (a < 64) }
+    ensures { result ≡ row_edge_count (lent_graph graph.entry) a }
 {
-    let mut count = 0;
-    for b in 0..order {
-        if is_listed(edges, a, b) {
-            count += 1;
-        }
-    }
-    count
+    (0..graph.order).filter(|b| is_listed(graph, a, *b)).count()
 }
 
-pub fn count_edges(order: usize, edges: &[u8]) -> usize
-    requires { (length edges.now ≡ 4096) × (order ≤ 64) }
-    ensures { result ≡ edge_count (graph order [] edges.now) }
+pub fn count_edges(graph: Graph<'_>) -> usize
+    requires { (length graph.edges.now ≡ 4096) × (graph.order ≤ 64) }
+    ensures { result ≡ edge_count (lent_graph graph.entry) }
 {
-    let mut count = 0;
-    for a in 0..order {
-        count += count_row(order, edges, a);
-    }
-    count
-}
-
-pub fn put_pair(out: &mut [u8], at: usize, first: u8, second: u8)
-    requires { at + 2 ≤ length out.old }
-    ensures { out.new ≡ sets out.old at (first ∷ second ∷ []) }
-{
-    out[at] = first;
-    out[at + 1] = second;
+    (0..graph.order).map(|a| count_row(graph, a)).sum()
 }
 
 // The command of one edge.
@@ -67,8 +39,7 @@ pub fn put_edge(out: &mut [u8], at: usize, a: u8, b: u8, label: u8)
     requires { at + 4 ≤ length out.old }
     ensures { out.new ≡ sets out.old at (2 ∷ a ∷ b ∷ label ∷ []) }
 {
-    put_pair(out, at, 2, a);
-    put_pair(out, at + 2, b, label);
+    out[at..at + 4].copy_from_slice(&[2, a, b, label]);
 }
 
 // The command of one vertex. Returns the place after it.
@@ -79,12 +50,11 @@ pub fn put_vertex(edition: Edition, label: Label, out: &mut [u8], at: usize) -> 
 {
     match edition {
         Edition::One => {
-            put_pair(out, at, 1, label as u8);
+            out[at..at + 2].copy_from_slice(&[1, label as u8]);
             at + 2
         }
         Edition::Two => {
-            put_pair(out, at, 3, (label % 256) as u8);
-            out[at + 2] = (label / 256) as u8;
+            out[at..at + 3].copy_from_slice(&[3, (label % 256) as u8, (label / 256) as u8]);
             at + 3
         }
     }
@@ -99,53 +69,47 @@ pub fn put_opening(edition: Edition, out: &mut [u8]) -> usize
     match edition {
         Edition::One => 0,
         Edition::Two => {
-            put_pair(out, 0, 4, 2);
+            out[..2].copy_from_slice(&[4, 2]);
             2
         }
     }
 }
 
-pub fn write_vertices(
-    edition: Edition,
-    order: usize,
-    labels: &[Label],
-    out: &mut [u8],
-    start: usize,
-)
-    requires { (length labels.now ≡ 64) × (order ≤ 64) × LabelsFit edition (graph order labels.now [])
-        × (start + length (run_below order (vertex_bytes edition (graph order labels.now []))) ≤ length out.old) }
-    ensures { out.new ≡ sets out.old start (run_below order (vertex_bytes edition (graph order labels.now []))) }
+pub fn write_vertices(edition: Edition, graph: Graph<'_>, out: &mut [u8], start: usize)
+    requires { (length graph.labels.now ≡ 64) × (graph.order ≤ 64) × LabelsFit edition (lent_graph graph)
+        × (start + length (run_below graph.order (vertex_bytes edition (lent_graph graph))) ≤ length out.old) }
+    ensures { out.new ≡ sets out.old start (run_below graph.entry.order (vertex_bytes edition (lent_graph graph.entry))) }
 {
     let mut at = start;
-    for v in 0..order {
-        at = put_vertex(edition, labels[v], out, at);
+    for v in 0..graph.order {
+        at = put_vertex(edition, graph.labels[v], out, at);
     }
 }
 
 // The edges of row a, from the place `start` on. Returns the place after them.
-pub fn write_row(order: usize, edges: &[u8], a: usize, out: &mut [u8], start: usize) -> usize
-    requires { (length edges.now ≡ 4096) × (order ≤ 64) × (a < 64) × (start + length (row_bytes (graph order [] edges.now) a) ≤ length out.old) }
-    ensures place { result ≡ start + length (row_bytes (graph order [] edges.now) a) }
-    ensures bytes { out.new ≡ sets out.old start (row_bytes (graph order [] edges.now) a) }
+pub fn write_row(graph: Graph<'_>, a: usize, out: &mut [u8], start: usize) -> usize
+    requires { (length graph.edges.now ≡ 4096) × (graph.order ≤ 64) × (a < 64) × (start + length (row_bytes (lent_graph graph) a) ≤ length out.old) }
+    ensures place { result ≡ start + length (row_bytes (lent_graph graph.entry) a) }
+    ensures bytes { out.new ≡ sets out.old start (row_bytes (lent_graph graph.entry) a) }
 {
     let mut at = start;
-    for b in 0..order {
-        if is_listed(edges, a, b) {
-            put_edge(out, at, a as u8, b as u8, edges[MAX_ORDER * a + b]);
+    for b in 0..graph.order {
+        if is_listed(graph, a, b) {
+            put_edge(out, at, a as u8, b as u8, graph.edges[MAX_ORDER * a + b]);
             at += 4;
         }
     }
     at
 }
 
-pub fn write_rows(order: usize, edges: &[u8], out: &mut [u8], start: usize) -> usize
-    requires { (length edges.now ≡ 4096) × (order ≤ 64) × (start + length (run_below order (row_bytes (graph order [] edges.now))) ≤ length out.old) }
-    ensures place { result ≡ start + length (run_below order (row_bytes (graph order [] edges.now))) }
-    ensures bytes { out.new ≡ sets out.old start (run_below order (row_bytes (graph order [] edges.now))) }
+pub fn write_rows(graph: Graph<'_>, out: &mut [u8], start: usize) -> usize
+    requires { (length graph.edges.now ≡ 4096) × (graph.order ≤ 64) × (start + length (run_below graph.order (row_bytes (lent_graph graph))) ≤ length out.old) }
+    ensures place { result ≡ start + length (run_below graph.entry.order (row_bytes (lent_graph graph.entry))) }
+    ensures bytes { out.new ≡ sets out.old start (run_below graph.entry.order (row_bytes (lent_graph graph.entry))) }
 {
     let mut at = start;
-    for a in 0..order {
-        at = write_row(order, edges, a, out, at);
+    for a in 0..graph.order {
+        at = write_row(graph, a, out, at);
     }
     at
 }
@@ -161,25 +125,19 @@ pub fn front_length(edition: Edition, order: usize) -> usize
     }
 }
 
-// The bytes of a graph that is known to be sound, with labels that the edition holds, where `out` has room for them.
-pub fn write_sound(
-    edition: Edition,
-    order: usize,
-    labels: &[Label],
-    edges: &[u8],
-    out: &mut [u8],
-) -> Filled
-    requires { (length labels.now ≡ 64) × (length edges.now ≡ 4096) × (order ≤ 64) × LabelsFit edition (graph order labels.now []) }
-    ensures { filled_of result out.new ≡ fill (edition_bytes edition (graph order labels.now edges.now)) out.old }
+// The bytes of a graph that is known to be sound, with labels that the edition holds: how many were written, or none where `out` has no room for them.
+pub fn write_sound(edition: Edition, graph: Graph<'_>, out: &mut [u8]) -> Option<usize>
+    requires { (length graph.labels.now ≡ 64) × (length graph.edges.now ≡ 4096) × (graph.order ≤ 64) × LabelsFit edition (lent_graph graph) }
+    ensures { filled_of result out.new ≡ fill (edition_bytes edition (lent_graph graph.entry)) out.old }
 {
-    let front = front_length(edition, order);
-    let total = front + 4 * count_edges(order, edges) + 1;
+    let front = front_length(edition, graph.order);
+    let total = front + 4 * count_edges(graph) + 1;
     if out.len() < total {
-        return Filled::TooShort;
+        return None;
     }
     let first = put_opening(edition, out);
-    write_vertices(edition, order, labels, out, first);
-    let end = write_rows(order, edges, out, front);
+    write_vertices(edition, graph, out, first);
+    let end = write_rows(graph, out, front);
     out[end] = 0;
-    Filled::Written(total)
+    Some(total)
 }

@@ -7,31 +7,30 @@ use lib.ListN.{get_or, replicate}
 use Rattle.answers.specs.Answer.{Answer, passed, accepted, refused, refused_at, refusal_number}
 use Rattle.answers.proofs.RefusalNumbers.{RefusalNumber, Valued}
 use Rattle.graph.specs.Graph.{graph}
-use Rattle.graph_reader.specs.Answers.{read_answer}
+use Rattle.std.specs.Prelude.{Ok, Err}
+use Rattle.graph_reader.specs.Answers.{read_refusal}
 use Rattle.graph_reader.specs.Reading.{Reading, read_graph}
-use Rattle.graph_reader.specs.declared.ReadAnswer.{ReadAnswer}
+use Rattle.graph_reader.specs.declared.ReadError.{ReadError}
 use Rattle.graph_reader.proofs.ReadSound.{reading_sound}
 use Rattle.graph_reader.proofs.RefusalNumbers.{reading_valued}
 use Rattle.substitutes.proofs.SoundList.{none_sound}
 use Rattle.problem.specs.Problem.{Problem, problem, SoundProblem}
-use Rattle.problem_reader.specs.declared.ProblemRead.{ProblemRead}
-use Rattle.problem_reader.specs.declared.ProblemRead.TheVariants.{Orders, Refused}
 use Rattle.problem_reader.specs.ProblemReading.{ReadOutcome, read, refusal, on_order, both_read, ProblemReading, reading_problem, read_problem}
-use Rattle.problem_reader.specs.Answers.{problem_reading_of}
+use Rattle.problem_reader.specs.Answers.{BothRead, problem_reading_of}
 
 -- what `read_problem` tells of its answer and tables, once it has read into tables of zeros
-module _ (old new : List ℕ) (r : ProblemRead) (ol oe nl ne : List ℕ)
+module _ (old new : List ℕ) (r : BothRead) (ol oe nl ne : List ℕ)
     (told : problem_reading_of r ol oe nl ne ≡ reading_problem (replicate 64 0) (replicate 4096 0) (replicate 64 0) (replicate 4096 0) old new)
   where
-    pub problem_read : (n m : ℕ) → r ≡ Orders n m → read (problem (graph n ol oe) (graph m nl ne)) ≡ read_problem old new
+    pub problem_read : (n m : ℕ) → r ≡ Ok (n, m) → read (problem (graph n ol oe) (graph m nl ne)) ≡ read_problem old new
     unfolding read_problem
     problem_read n m e =
-        ap (λ (x : ProblemRead). (problem_reading_of x ol oe nl ne).outcome) (sym e) ∙ ap (λ (x : ProblemReading). x.outcome) told
+        ap (λ (x : BothRead). (problem_reading_of x ol oe nl ne).outcome) (sym e) ∙ ap (λ (x : ProblemReading). x.outcome) told
 
-    pub problem_refused : (a : ReadAnswer) → r ≡ Refused a → refusal (read_answer a) ≡ read_problem old new
+    pub problem_refused : (a : ReadError) → r ≡ Err a → refusal (read_refusal a) ≡ read_problem old new
     unfolding read_problem
     problem_refused a e =
-        ap (λ (x : ProblemRead). (problem_reading_of x ol oe nl ne).outcome) (sym e) ∙ ap (λ (x : ProblemReading). x.outcome) told
+        ap (λ (x : BothRead). (problem_reading_of x ol oe nl ne).outcome) (sym e) ∙ ap (λ (x : ProblemReading). x.outcome) told
 
 -- each answer of the two readings, in turn
 both_cases : (C : ReadOutcome → Type 0) (o w : Reading) → Valued o.answer → Valued w.answer

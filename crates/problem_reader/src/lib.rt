@@ -3,31 +3,27 @@
 #![tactic(auto)]
 
 ghost use Rattle.std.specs.Prelude.{◌≡◌};
-ghost use Rattle.answers.specs.Answer.{refusal_number};
-ghost use Rattle.problem_reader.specs.Answers.{problem_read_answer, problem_reading_of};
+ghost use Rattle.graph.specs.Soundness.{tables_fit};
+ghost use Rattle.problem_reader.specs.Answers.{problem_reading_of};
 ghost use Rattle.problem_reader.specs.ProblemReading.{reading_problem};
 
-use graph::Label;
-use graph_reader::ReadAnswer;
+use graph::{Graph, Label};
+use graph_reader::ReadError;
 
-// The answer of `read_problem`: both orders, or what `read_graph` says of the first graph that is refused.
-#[derive(Clone, Copy)]
-pub enum ProblemRead {
-    Orders(usize, usize),
-    Refused(ReadAnswer),
-}
-
-// The document's number of a refusal, and 0 where both graphs were read.
-pub fn problem_read_number(answer: ProblemRead) -> u8
-    ensures { result ≡ refusal_number (problem_read_answer answer) }
+// Whether two tables have the lengths of a graph's.
+fn tables_fit(labels: &[Label], edges: &[u8]) -> bool
+    ensures { result ≡ tables_fit 0 labels.now edges.now }
 {
-    match answer {
-        ProblemRead::Orders(_, _) => 0,
-        ProblemRead::Refused(refusal) => graph_reader::read_number(refusal),
-    }
+    let empty = Graph {
+        order: 0,
+        labels,
+        edges,
+    };
+    empty.tables_fit()
 }
 
-// Reads each graph into its two tables, whatever becomes of the other. The lengths of all tables come first, then the old graph's refusal.
+// Reads each graph into its two tables, whatever becomes of the other, and answers both orders. The lengths of all tables come first, then the old graph's
+// refusal.
 pub fn read_problem(
     old_bytes: &[u8],
     new_bytes: &[u8],
@@ -35,24 +31,18 @@ pub fn read_problem(
     old_edges: &mut [u8],
     new_labels: &mut [Label],
     new_edges: &mut [u8],
-) -> ProblemRead
+) -> Result<(usize, usize), ReadError>
     ensures { problem_reading_of result old_labels.new old_edges.new new_labels.new new_edges.new
         ≡ reading_problem old_labels.old old_edges.old new_labels.old new_edges.old
         old_bytes.now new_bytes.now }
 {
-    if !graph::tables_fit(0, old_labels, old_edges) {
-        return ProblemRead::Refused(ReadAnswer::Tables);
+    if !tables_fit(old_labels, old_edges) {
+        return Err(ReadError::Tables);
     }
-    if !graph::tables_fit(0, new_labels, new_edges) {
-        return ProblemRead::Refused(ReadAnswer::Tables);
+    if !tables_fit(new_labels, new_edges) {
+        return Err(ReadError::Tables);
     }
     let old = graph_reader::read_graph(old_bytes, old_labels, old_edges);
     let new = graph_reader::read_graph(new_bytes, new_labels, new_edges);
-    match old {
-        ReadAnswer::Order(old_order) => match new {
-            ReadAnswer::Order(new_order) => ProblemRead::Orders(old_order, new_order),
-            _ => ProblemRead::Refused(new),
-        },
-        _ => ProblemRead::Refused(old),
-    }
+    Ok((old?, new?))
 }

@@ -34,4 +34,4 @@ pub mod WordBounds
 pub mod WordCeiling
 pub mod WordChoices
 pub mod WordLevels
-pub mod SearchTags
+pub mod SearchErrors

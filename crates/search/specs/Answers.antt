@@ -1,18 +1,19 @@
 -- What each answer of this crate says in 01's terms: the ceiling, or a refusal's number (01, "Refusals by place of checking").
-use Rattle.std.specs.Prelude.{List, ℕ}
-use Rattle.answers.specs.Answer.{Answer, accepted, refused}
-use Rattle.problem.specs.Answers.{problem_flaw_number}
-use Rattle.search.specs.declared.SearchAnswer.{SearchAnswer}
-use Rattle.search.specs.declared.SearchAnswer.TheVariants.{Ceiling, Flawed, OutOfShape, FewWords, ManySteps}
+use Rattle.std.specs.Prelude.{List, Result, ℕ}
+use Rattle.answers.specs.Answer.{Answer, refused, counted}
+use Rattle.checkpoint.specs.Answers.{shape_number}
+use Rattle.search.specs.declared.SearchError.{SearchError}
+use Rattle.search.specs.declared.SearchError.TheVariants.{Shape, FewWords, ManySteps}
 use Rattle.search.specs.declared.Searched.{Searched}
 use Rattle.search.specs.Call.{Called}
 
-abbrev pub search_answer : SearchAnswer → Answer
-search_answer (Ceiling n) = accepted n
-search_answer (Flawed f) = refused (problem_flaw_number f)
-search_answer OutOfShape = refused 14
-search_answer FewWords = refused 15
-search_answer ManySteps = refused 16
+abbrev pub search_refusal : SearchError → Answer
+search_refusal (Shape e) = refused (shape_number e)
+search_refusal FewWords = refused 15
+search_refusal ManySteps = refused 16
+
+abbrev pub search_answer : Result ℕ SearchError → Answer
+search_answer r = counted search_refusal r
 
 abbrev pub called_of : Searched → List ℕ → Called
 called_of r workspace = record { answer = search_answer r.answer; checkpoint = r.checkpoint; workspace = workspace }

@@ -5,7 +5,6 @@ use native.Mathlib.Omega.{arith}
 use borrow.Author.Rules.{rules}
 use Rattle.descend.proofs.OneSearch.{Exhausted, exhausted_facts}
 use Rattle.descend.proofs.LoopTurn.{fresh_minimum, going_all, turn_steps, turn_refused, turn_accepted, turn_minimum, turn_ends, turn_renews}
-use Rattle.search.proofs.SearchTags.{other_search}
 use Rattle.descend.proofs.descend.Goals as goal
 use Rattle.descend.proofs.descend.Goals.{After-search-searched, Else-not-is_exhausted}
 
@@ -40,7 +39,7 @@ overflow_add-visits c =
 
 pub lowered-requires : goal.lowered-requires
 lowered-requires c =
-    (turn_accepted c.loop-top.invariant c.search-searched.result _ c.search-searched.ensures _ c.in-Ceiling.is).sound.old_sound.order_max
+    (turn_accepted c.loop-top.invariant c.search-searched.result _ c.search-searched.ensures _ c.in-Ok.is).sound.old_sound.order_max
 
 pub shape_of-workspace-then-not-is_exhausted : goal.shape_of-workspace-then-not-is_exhausted
 shape_of-workspace-then-not-is_exhausted c =
@@ -49,7 +48,7 @@ shape_of-workspace-then-not-is_exhausted c =
 pub returns-then-not-is_exhausted : goal.returns-then-not-is_exhausted
 returns-then-not-is_exhausted c =
     let off = sym c.is_exhausted.ensures ∙ c.if-not-is_exhausted.true in
-    turn_ends c.loop-top.invariant c.search-searched.result _ c.search-searched.ensures _ c.in-Ceiling.is off _ c.lowered.ensures
+    turn_ends c.loop-top.invariant c.search-searched.result _ c.search-searched.ensures _ c.in-Ok.is off _ c.lowered.ensures
 
 pub overflow_sub-reached : goal.overflow_sub-reached
 overflow_sub-reached c = omega (arith, (above (goal.at.overflow_sub-reached c).Else-not-is_exhausted).above)
@@ -59,19 +58,19 @@ overflow_sub-left c = omega (arith, steps (goal.at.overflow_sub-left c).After-se
 
 pub loop-top-smaller : goal.loop-top-smaller
 loop-top-smaller c =
-    let same = turn_minimum c.loop-top.invariant c.search-searched.result _ c.search-searched.ensures _ c.in-Ceiling.is in
+    let same = turn_minimum c.loop-top.invariant c.search-searched.result _ c.search-searched.ensures _ c.in-Ok.is in
     omega (arith, fresh_minimum _ c.fresh-at.ensures, same, (above (goal.at.loop-top-smaller c).Else-not-is_exhausted).above)
 
 pub loop-top-preserved : goal.loop-top-preserved
 loop-top-preserved c =
     rw c.fresh-at.ensures
-    (turn_renews c.loop-top.invariant c.search-searched.result _ c.search-searched.ensures _ c.in-Ceiling.is
+    (turn_renews c.loop-top.invariant c.search-searched.result _ c.search-searched.ensures _ c.in-Ok.is
     (sym c.is_exhausted.ensures ∙ goes_on (goal.at.loop-top-preserved c).Else-not-is_exhausted))
 
-pub shape_of-workspace-in_default : goal.shape_of-workspace-in_default
-shape_of-workspace-in_default c =
+pub shape_of-workspace-in-Err : goal.shape_of-workspace-in-Err
+shape_of-workspace-in-Err c =
     omega (arith, c.search-searched.auto.workspace, c.loop-top.invariant.kept)
 
-pub returns-in_default : goal.returns-in_default
-returns-in_default c =
-    turn_refused c.loop-top.invariant c.search-searched.result _ c.search-searched.ensures (other_search _ c.in_default.not-Ceiling)
+pub returns-in-Err : goal.returns-in-Err
+returns-in-Err c =
+    turn_refused c.loop-top.invariant c.search-searched.result _ c.search-searched.ensures _ c.in-Err.is

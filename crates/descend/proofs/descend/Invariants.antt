@@ -6,4 +6,7 @@ use Rattle.descend.proofs.descend.Given as goal
 
 abbrev pub invariant-loop-top : goal.invariant-loop-top
 invariant-loop-top l =
-    Going l.connected (lent l.orders l.labels l.edges l.substitutes) l.floor l.initial.at l.budget l.initial.workspace l.at l.left l.visits l.workspace
+    Going l.connected (lent l.problem) l.floor l.initial.at l.budget l.initial.workspace l.at l.left l.visits l.workspace
+
+abbrev pub decreases-loop-top : goal.decreases-loop-top
+decreases-loop-top l = l.at.minimum

@@ -1,34 +1,30 @@
--- `graph_writer::write_graph` meets its contract: what `check_graph` answers is what `soundness` computes to.
+-- `graph_writer::write_graph` meets its contract: what `check` answers is what `soundness` computes to.
 -- Assumes nothing.
-use mathlib.Core.Path.{◌≡◌, sym, ap, ◌∙◌}
-use Rattle.graph.specs.Graph.{graph}
-use Rattle.graph.specs.Answers.{soundness_answer}
+use mathlib.Core.Path.{◌≡◌, refl, sym, ◌∙◌}
+use Rattle.std.specs.Prelude.{Option, Some, None, List, ℕ}
+use Rattle.std.specs.Option.{ok_or}
+use Rattle.std.proofs.lemmas.Result.{err_from_is_err_and}
 use Rattle.graph.proofs.SoundTests.{passes_sound}
-use Rattle.graph_writer.specs.declared.writer.Filled.{Filled}
-use Rattle.graph_writer.specs.Writing.{filled_of, writing}
+use Rattle.graph_writer.specs.declared.WriteError.TheVariants.{TooShort}
+use Rattle.graph_writer.specs.Writing.{writing_of, filled_of}
 use Rattle.graph_writer.proofs.Written.{passed_writing, refused_writing}
 use Rattle.graph_writer.proofs.write_graph.Goals as goal
-use Rattle.graph_writer.proofs.write_graph.Goals.{After-write_sound}
+
+pub returns-in_err-check : goal.returns-in_err-check
+returns-in_err-check c =
+    let p = err_from_is_err_and c.from_residual.result c.from_residual.ensures.1 in
+    rw (p.1, p.2) (sym (refused_writing _ _ _ (sym c.in_err-check.ensures)))
 
 pub write_sound-requires : goal.write_sound-requires
 write_sound-requires c =
-    let sound = passes_sound _ (sym c.check_graph.ensures ∙ ap soundness_answer c.in-Sound.is) in
+    let sound = passes_sound _ (sym c.in_ok-check.ensures) in
     (sound.labels_length, sound.edges_length, sound.order_max, λ v h. (sound.labelled v h).1)
 
--- what the writer left, once the graph has passed
-wrote : (c : After-write_sound) (found : Filled) → c.write_sound.result ≡ found
-    → let a = c.args in
-    filled_of found c.write_sound.new.out ≡ writing (graph a.order a.labels.now a.edges.now) a.out.now
-wrote c found e =
-    ap (λ (f : Filled). filled_of f c.write_sound.new.out) (sym e) ∙ c.write_sound.ensures
-    ∙ sym (passed_writing _ _ (sym c.check_graph.ensures ∙ ap soundness_answer c.in-Sound.is))
+-- what no room becomes
+roomless : (o : Option ℕ) (buffer : List ℕ) → writing_of (ok_or o TooShort) buffer ≡ filled_of o buffer
+roomless (Some n) buffer = refl
+roomless None buffer = refl
 
-pub returns-in-Flawed : goal.returns-in-Flawed
-returns-in-Flawed c =
-    sym (refused_writing _ _ _ (sym c.check_graph.ensures ∙ ap soundness_answer c.in-Flawed.is))
-
-pub returns-in-Written : goal.returns-in-Written
-returns-in-Written c = wrote (goal.at.returns-in-Written c).After-write_sound _ c.in-Written.is
-
-pub returns-in-TooShort : goal.returns-in-TooShort
-returns-in-TooShort c = wrote (goal.at.returns-in-TooShort c).After-write_sound _ c.in-TooShort.is
+pub returns : goal.returns
+returns c =
+    rw c.ok_or.ensures.value (roomless _ _ ∙ c.write_sound.ensures ∙ sym (passed_writing _ _ (sym c.in_ok-check.ensures)))

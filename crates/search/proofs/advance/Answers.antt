@@ -18,7 +18,7 @@ use Rattle.search.proofs.advance.Goals as goal
 use Rattle.search.proofs.advance.Goals.{After-ceiling-top, After-fill_masks, After-root_words, After-run-end, After-start-start, Start}
 
 -- what the call starts from; that its arrays have 64 bytes comes with the checkpoint's type
-given : (s : Start) → Accepted s.args.connected (lent s.args.orders s.args.labels s.args.edges s.args.substitutes.now) s.args.checkpoint
+given : (s : Start) → Accepted s.args.connected (lent s.args.problem) s.args.checkpoint
 given s =
     record {
       sound = s.requires.sound_problem;
@@ -29,9 +29,9 @@ given s =
 
 -- what the code is lent, once the masks are filled in
 setting : (c : After-fill_masks)
-    → Setting (lent c.args.orders c.args.labels c.args.edges c.args.substitutes.now) (lent c.args.orders c.args.labels c.args.edges c.args.substitutes.now).old.order (lent c.args.orders c.args.labels c.args.edges c.args.substitutes.now).old.edges c.fill_masks.new.masks
+    → Setting (lent c.args.problem) (lent c.args.problem).old.order (lent c.args.problem).old.edges c.fill_masks.new.masks
 setting c =
-    let given : Accepted c.args.connected (lent c.args.orders c.args.labels c.args.edges c.args.substitutes.now) c.args.checkpoint = record {
+    let given : Accepted c.args.connected (lent c.args.problem) c.args.checkpoint = record {
       sound = c.requires.sound_problem;
       shape = c.requires.in_shape;
       path_long = search rules;
@@ -70,18 +70,18 @@ start-start-requires c =
 
 -- the walk at its start is ready for a visit
 started : (c : After-start-start)
-    → Starts c.args.connected (lent c.args.orders c.args.labels c.args.edges c.args.substitutes.now) c.args.checkpoint c.start-start.result c.start-start.new.workspace
+    → Starts c.args.connected (lent c.args.problem) c.args.checkpoint c.start-start.result c.start-start.new.workspace
 started c =
-    let given : Accepted c.args.connected (lent c.args.orders c.args.labels c.args.edges c.args.substitutes.now) c.args.checkpoint = record {
+    let given : Accepted c.args.connected (lent c.args.problem) c.args.checkpoint = record {
       sound = c.requires.sound_problem;
       shape = c.requires.in_shape;
       path_long = search rules;
       incumbent_long = search rules;
     } in
-    let setting : Setting (lent c.args.orders c.args.labels c.args.edges c.args.substitutes.now) (lent c.args.orders c.args.labels c.args.edges c.args.substitutes.now).old.order (lent c.args.orders c.args.labels c.args.edges c.args.substitutes.now).old.edges c.fill_masks.new.masks = call_setting given c.fill_masks.ensures in
-    c.start-start.ensures.starts c.args.connected (lent c.args.orders c.args.labels c.args.edges c.args.substitutes.now) setting c.requires.in_shape
-    (root_words (lent c.args.orders c.args.labels c.args.edges c.args.substitutes.now) c.requires.sound_problem
-    (c.root_words.ensures (lent c.args.orders c.args.labels c.args.edges c.args.substitutes.now) refl (allowing_allowed c.args.orders c.args.labels c.args.edges c.args.substitutes.now c.requires.sound_problem c.allowed_sets-allowed.ensures)) c.args.checkpoint.path)
+    let setting : Setting (lent c.args.problem) (lent c.args.problem).old.order (lent c.args.problem).old.edges c.fill_masks.new.masks = call_setting given c.fill_masks.ensures in
+    c.start-start.ensures.starts c.args.connected (lent c.args.problem) setting c.requires.in_shape
+    (root_words (lent c.args.problem) c.requires.sound_problem
+    (c.root_words.ensures (lent c.args.problem) refl (allowing_allowed c.args.problem c.requires.sound_problem c.allowed_sets-allowed.ensures)) c.args.checkpoint.path)
 
 pub slice_bounds-run-end : goal.slice_bounds-run-end
 slice_bounds-run-end c = sym c.fill_masks.ensures.words
@@ -90,7 +90,7 @@ pub run-end-requires : goal.run-end-requires
 run-end-requires c = (
   rw (started (goal.at.run-end-requires c).After-start-start).checkpoint_is (start_count c.args.checkpoint c.args.budget c.requires.workspace_len.1),
   record {
-    problem = (lent c.args.orders c.args.labels c.args.edges c.args.substitutes.now);
+    problem = (lent c.args.problem);
     setting = setting (goal.at.run-end-requires c).After-fill_masks;
     first_are = c.all_first-first.ensures;
     ready = (started (goal.at.run-end-requires c).After-start-start).ready;
@@ -102,20 +102,20 @@ run-end-requires c = (
 -- the visits are made
 made : (c : After-run-end)
     → let k = c.start-start.result.checkpoint in
-    Arrives c.args.connected (lent c.args.orders c.args.labels c.args.edges c.args.substitutes.now) k.minimum (visits (search_of c.args.connected (lent c.args.orders c.args.labels c.args.edges c.args.substitutes.now)) k.minimum c.args.budget (state_of (lent c.args.orders c.args.labels c.args.edges c.args.substitutes.now).old.order k)) c.run-end.result
+    Arrives c.args.connected (lent c.args.problem) k.minimum (visits (search_of c.args.connected (lent c.args.problem)) k.minimum c.args.budget (state_of (lent c.args.problem).old.order k)) c.run-end.result
     c.run-end.new.workspace
 made c =
-    let given : Accepted c.args.connected (lent c.args.orders c.args.labels c.args.edges c.args.substitutes.now) c.args.checkpoint = record {
+    let given : Accepted c.args.connected (lent c.args.problem) c.args.checkpoint = record {
       sound = c.requires.sound_problem;
       shape = c.requires.in_shape;
       path_long = search rules;
       incumbent_long = search rules;
     } in
-    let setting : Setting (lent c.args.orders c.args.labels c.args.edges c.args.substitutes.now) (lent c.args.orders c.args.labels c.args.edges c.args.substitutes.now).old.order (lent c.args.orders c.args.labels c.args.edges c.args.substitutes.now).old.edges c.fill_masks.new.masks = call_setting given c.fill_masks.ensures in
-    let started : Starts c.args.connected (lent c.args.orders c.args.labels c.args.edges c.args.substitutes.now) c.args.checkpoint c.start-start.result c.start-start.new.workspace = c.start-start.ensures.starts c.args.connected (lent c.args.orders c.args.labels c.args.edges c.args.substitutes.now) setting c.requires.in_shape
-    (root_words (lent c.args.orders c.args.labels c.args.edges c.args.substitutes.now) c.requires.sound_problem
-    (c.root_words.ensures (lent c.args.orders c.args.labels c.args.edges c.args.substitutes.now) refl (allowing_allowed c.args.orders c.args.labels c.args.edges c.args.substitutes.now c.requires.sound_problem c.allowed_sets-allowed.ensures)) c.args.checkpoint.path) in
-    c.run-end.ensures (lent c.args.orders c.args.labels c.args.edges c.args.substitutes.now) setting started.ready
+    let setting : Setting (lent c.args.problem) (lent c.args.problem).old.order (lent c.args.problem).old.edges c.fill_masks.new.masks = call_setting given c.fill_masks.ensures in
+    let started : Starts c.args.connected (lent c.args.problem) c.args.checkpoint c.start-start.result c.start-start.new.workspace = c.start-start.ensures.starts c.args.connected (lent c.args.problem) setting c.requires.in_shape
+    (root_words (lent c.args.problem) c.requires.sound_problem
+    (c.root_words.ensures (lent c.args.problem) refl (allowing_allowed c.args.problem c.requires.sound_problem c.allowed_sets-allowed.ensures)) c.args.checkpoint.path) in
+    c.run-end.ensures (lent c.args.problem) setting started.ready
 
 pub slice_bounds-ceiling-end : goal.slice_bounds-ceiling-end
 slice_bounds-ceiling-end c = sym c.fill_masks.ensures.words
@@ -140,5 +140,5 @@ shape_of-workspace c =
 pub returns : goal.returns
 returns c =
     call_arrives (given (goal.at.returns c).Start) c.args.budget c.ceiling-top.result c.args.workspace.now c.ceiling-top.new.workspace (setting (goal.at.returns c).After-fill_masks)
-    (started (goal.at.returns c).After-start-start).checkpoint_is (started (goal.at.returns c).After-start-start).ready (made (goal.at.returns c).After-run-end) (c.ceiling-top.ensures c.args.connected (lent c.args.orders c.args.labels c.args.edges c.args.substitutes.now) (setting (goal.at.returns c).After-fill_masks) (made (goal.at.returns c).After-run-end).ready)
+    (started (goal.at.returns c).After-start-start).checkpoint_is (started (goal.at.returns c).After-start-start).ready (made (goal.at.returns c).After-run-end) (c.ceiling-top.ensures c.args.connected (lent c.args.problem) (setting (goal.at.returns c).After-fill_masks) (made (goal.at.returns c).After-run-end).ready)
     c.requires.workspace_len.0 (ceiling_whole (goal.at.returns c).After-ceiling-top) c.clear_words.ensures

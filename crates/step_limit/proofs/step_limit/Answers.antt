@@ -1,6 +1,6 @@
 -- `step_limit::step_limit` meets its contract: what is read off the table is the capped step limit. Assumes nothing.
 use mathlib.Core.Path.{ap, sym, ◌∙◌}
-use mathlib.Core.Logic.{inl, inr}
+use mathlib.Core.Logic.{inl, inr, ⊎_elim}
 use Prim.Native.Nat.{◌≤◌}
 use Rattle.answers.specs.Answer.{accepted}
 use Rattle.step_limit.proofs.TableLimits.{table_limit}
@@ -9,10 +9,8 @@ use borrow.Author.Rules.{rules}
 use Rattle.step_limit.proofs.step_limit.Goals as goal
 
 pub returns-then-new_order-gt-MAX_ORDER : goal.returns-then-new_order-gt-MAX_ORDER
-returns-then-new_order-gt-MAX_ORDER c = sym (foretold_many _ _ (inl (search rules)))
-
-pub returns-then-old_order-gt-MAX_ORDER : goal.returns-then-old_order-gt-MAX_ORDER
-returns-then-old_order-gt-MAX_ORDER c = sym (foretold_many _ _ (inr (search rules)))
+returns-then-new_order-gt-MAX_ORDER c =
+    sym (foretold_many _ _ (⊎_elim inl (λ h. inr h.1) c.then-new_order-gt-MAX_ORDER.either))
 
 pub returns : goal.returns
 returns c =

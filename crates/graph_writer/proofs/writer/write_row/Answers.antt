@@ -6,7 +6,8 @@ use native.Mathlib.Omega.{arith}
 use lib.ListN.{length}
 use lib.Seq.{sets}
 use Rattle.answers.proofs.Stores.{stored_none, stored_more, stored_room, stored_all}
-use Rattle.graph.specs.Graph.{Graph, graph, edge}
+use Rattle.graph.specs.Graph.{Graph, edge}
+use Rattle.graph.specs.Lent.{lent_graph}
 use Rattle.graph_writer.specs.Writing.{listed, edge_bytes, row_bytes}
 use Rattle.graph_writer.proofs.writer.write_row.Goals as goal
 use Rattle.graph_writer.proofs.writer.write_row.Goals.{Then-is_listed, else-is_listed, then-is_listed}
@@ -26,7 +27,7 @@ loop-b-init c = stored_none _ _ _ _
 room : (c : Then-is_listed) → c.loop-b.at + 4 ≤ length c.loop-b.out
 unfolding row_bytes
 room c =
-    let g = graph c.args.order [] c.args.edges.now in
+    let g = lent_graph c.args.graph in
     let bytes = listed_bytes g c.args.a c.loop-b.b (sym c.is_listed.ensures ∙ c.if-is_listed.true) in
     let whole = stored_room _ _ _ _ _ _ _ c.loop-b.invariant c.loop-b-test.true c.requires.3 in
     omega (arith, whole, ap length bytes)
@@ -43,7 +44,7 @@ pub loop-b-preserved : goal.loop-b-preserved
 loop-b-preserved c =
     let l = c.loop-b in
     let args = c.args in
-    let g = graph args.order [] args.edges.now in
+    let g = lent_graph args.graph in
     let told = sym c.is_listed.ensures in
     let more = stored_more _ _ _ _ _ _ _ l.invariant c.loop-b-test.true c.if-is_listed.at c.if-is_listed.out in
     elim c.if-is_listed.branch [

@@ -1,7 +1,7 @@
 use borrow.Author.Rules.{rules}
 use mathlib.Core.Path.{sym, ◌∙◌}
 use Rattle.bounded.proofs.AllBelow.{passed_none, passed_more, passed_all, false_all_below}
-use Rattle.clique.proofs.candidates.edges_fit.Goals as goal
+use Rattle.clique.proofs.candidates.Allowed.edges_fit.Goals as goal
 
 pub loop-i-init : goal.loop-i-init
 loop-i-init c = passed_none _ _

@@ -1,4 +1,4 @@
--- `clique::branching::branch` meets its contract: it is the first row, with nothing held. Assumes nothing.
+-- `clique::candidates::Allowed::branch` meets its contract: it is the first row, with nothing held. Assumes nothing.
 use mathlib.Core.Option.{none}
 use mathlib.Core.Path.{refl, ap, ◌∙◌}
 use mathlib.Core.List.{[]}
@@ -9,7 +9,7 @@ use Rattle.clique.specs.LentRules.{lent_rules}
 use Rattle.clique.specs.Carried.{incumbent_as}
 use Rattle.clique.proofs.Carried.{decided_none}
 use borrow.Author.Rules.{rules}
-use Rattle.clique.proofs.branching.branch.Goals as goal
+use Rattle.clique.proofs.candidates.Allowed.branch.Goals as goal
 
 pub branch_row-requires : goal.branch_row-requires
 branch_row-requires c = search (rules, decided_none)
@@ -18,4 +18,4 @@ pub returns : goal.returns
 returns c =
     let a = c.args in
     c.branch_row.ensures a.minimum none refl
-    ∙ ap (λ (n : ℕ). incumbent_as a.minimum (branch_row (lent_rules a.orders a.allowed.now a.edges) a.minimum (2 * n) [] none)) (sub-zero _)
+    ∙ ap (λ (n : ℕ). incumbent_as a.minimum (branch_row (lent_rules a.self.problem a.self.sets.now) a.minimum (2 * n) [] none)) (sub-zero _)

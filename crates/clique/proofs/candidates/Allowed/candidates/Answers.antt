@@ -8,8 +8,8 @@ use Rattle.bitset.proofs.LeastBelow.{least_below_member}
 use Rattle.bitset.proofs.WithoutLeast.{size_without_least}
 use Rattle.clique.proofs.Gathered.{gathered_none, gathered_added, gathered_skipped, gathered_all}
 use Rattle.clique.proofs.LentCandidates.{free_fitting}
-use Rattle.clique.proofs.candidates.candidates.Goals as goal
-use Rattle.clique.proofs.candidates.candidates.Goals.{In-Some, else-edges_fit, then-edges_fit}
+use Rattle.clique.proofs.candidates.Allowed.candidates.Goals as goal
+use Rattle.clique.proofs.candidates.Allowed.candidates.Goals.{In-Some, else-edges_fit, then-edges_fit}
 
 -- the vertex that was found
 found : (c : In-Some) → least_member c.loop-v.rest ≡ Some c.in-Some.v
@@ -31,8 +31,8 @@ pub loop-v-preserved : goal.loop-v-preserved
 loop-v-preserved c =
     elim c.if-edges_fit.branch [ then-edges_fit w ↦ gathered_added _ _ c.loop-v.invariant (found (goal.at.loop-v-preserved c).In-Some) c.without_least-rest.ensures (sym c.edges_fit.ensures ∙ w.if-edges_fit.true) (w.fitting-is ∙ w.with-fitting.ensures) | else-edges_fit w ↦ gathered_skipped _ _ c.loop-v.invariant (found (goal.at.loop-v-preserved c).In-Some) c.without_least-rest.ensures (sym c.edges_fit.ensures ∙ w.if-edges_fit.false) w.fitting-is ]
 
-pub returns-in-None : goal.returns-in-None
-returns-in-None c =
+pub returns : goal.returns
+returns c =
     let a = c.args in
-    gathered_all _ _ c.loop-v.invariant (sym c.least_member.ensures ∙ c.in-None.is)
-    ∙ free_fitting a.allowed.now a.edges a.path a.row.0 c.taken.ensures c.difference-rest.ensures
+    gathered_all _ _ c.loop-v.invariant (sym c.least_member.ensures ∙ c.in_default.is)
+    ∙ free_fitting a.self.problem a.self.sets.now a.path a.row.0 c.taken.ensures c.difference-rest.ensures

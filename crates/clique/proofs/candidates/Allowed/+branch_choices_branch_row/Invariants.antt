@@ -2,12 +2,11 @@
 -- left, at most 64: a row counts 66, so that the choices of a row, with one for the choice of none, stay below it and above the rows after it.
 -- Assumes nothing.
 use Prim.Native.Nat.{◌+◌, ◌-◌, ◌*◌}
-use lib.ListN.{get_or}
 use Rattle.bitset.specs.Count.{size}
-use Rattle.clique.proofs.branching.+branch_choices_branch_row.Given as goal
+use Rattle.clique.proofs.candidates.Allowed.+branch_choices_branch_row.Given as goal
 
 abbrev pub decreases-branch_choices : goal.decreases-branch_choices
-decreases-branch_choices l = (get_or l.orders 0 0 - (l.depth + 1)) * 66 + size l.candidates + 1
+decreases-branch_choices l = (l.self.problem.old.order - (l.depth + 1)) * 66 + size l.candidates + 1
 
 abbrev pub decreases-branch_row : goal.decreases-branch_row
-decreases-branch_row l = (get_or l.orders 0 0 - l.depth) * 66
+decreases-branch_row l = (l.self.problem.old.order - l.depth) * 66

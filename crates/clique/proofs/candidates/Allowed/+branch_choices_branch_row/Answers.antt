@@ -14,7 +14,7 @@ use Rattle.clique.specs.Carried.{incumbent_as}
 use Rattle.clique.proofs.LentCandidates.{lent_candidates}
 use Rattle.clique.proofs.Carried.{decided_left_out, decided_mapped, decided_pairs}
 use Rattle.clique.proofs.Routines.{row_decided, row_open, no_candidate, least_candidate}
-use Rattle.clique.proofs.branching.+branch_choices_branch_row.Goals as goal
+use Rattle.clique.proofs.candidates.Allowed.+branch_choices_branch_row.Goals as goal
 
 -- a member of the word is a place of the tables
 place : (s : ℕ) {v : ℕ} → Some v ≡ least_member s → v < 64
@@ -59,39 +59,39 @@ branch_choices-branch_choices-requires t c = (
 
 pub branch_choices-returns-in-None : goal.branch_choices-returns-in-None
 branch_choices-returns-in-None t c minimum incumbent e =
-    let R = lent_rules c.args.orders c.args.allowed.now c.args.edges in
+    let R = lent_rules c.args.self.problem c.args.self.sets.now in
     c.branch_row.ensures minimum incumbent e
     ∙ ap (incumbent_as minimum)
     (no_candidate R minimum c.args.path c.args.depth incumbent (omega (arith, c.requires.0.old_max, c.requires.1)) _ c.args.candidates (sym c.in-None.ensures))
 
 pub branch_choices-returns-in-Some : goal.branch_choices-returns-in-Some
 branch_choices-returns-in-Some t c minimum incumbent e =
-    let R = lent_rules c.args.orders c.args.allowed.now c.args.edges in
+    let R = lent_rules c.args.self.problem c.args.self.sets.now in
     c.branch_choices.ensures minimum _ (c.branch_row-better.ensures minimum incumbent e)
     ∙ ap (incumbent_as minimum)
     (least_candidate R minimum c.args.path c.args.depth incumbent (omega (arith, c.requires.0.old_max, c.requires.1)) _ c.args.candidates
     c.in-Some.vertex (sym c.in-Some.ensures) c.without_least-rest.ensures)
 
-pub branch_row-returns-then-depth-orders : goal.branch_row-returns-then-depth-orders
-branch_row-returns-then-depth-orders t c minimum incumbent e =
-    let R = lent_rules c.args.orders c.args.allowed.now c.args.edges in
+pub branch_row-returns-then-depth-self : goal.branch_row-returns-then-depth-self
+branch_row-returns-then-depth-self t c minimum incumbent e =
+    let R = lent_rules c.args.self.problem c.args.self.sets.now in
     c.keep_larger.ensures minimum incumbent e
-    ∙ ap (incumbent_as minimum) (row_decided R minimum c.args.path c.args.depth incumbent c.if-depth-orders.true)
+    ∙ ap (incumbent_as minimum) (row_decided R minimum c.args.path c.args.depth incumbent c.if-depth-self.true)
 
 pub branch_row-branch_choices-requires : goal.branch_row-branch_choices-requires
 branch_row-branch_choices-requires t c =
     let p = c.requires in (
       omega (arith, c.decreases, count_below_le 64 (member c.candidates-candidates.result)),
-      (p.0, omega (arith, p.1, c.if-depth-orders.false), p.2),
+      (p.0, omega (arith, p.1, c.if-depth-self.false), p.2),
     )
 
 pub branch_row-returns : goal.branch_row-returns
 branch_row-returns t c minimum incumbent e =
-    let R = lent_rules c.args.orders c.args.allowed.now c.args.edges in
+    let R = lent_rules c.args.self.problem c.args.self.sets.now in
     let p = c.requires in
     c.branch_choices.ensures minimum incumbent e
     ∙ ap (incumbent_as minimum)
-    (row_open R minimum c.args.path c.args.depth incumbent (omega (arith, p.0.old_max, p.1, c.if-depth-orders.false))
-    (omega (arith, p.1, c.if-depth-orders.false)) p.0.new_max
-    (c.candidates-candidates.ensures ∙ lent_candidates c.args.allowed.now c.args.edges c.args.path c.args.depth c.args.orders p.0
-    (omega (arith, p.1, c.if-depth-orders.false)) (omega (arith, p.0.old_max, p.1))))
+    (row_open R minimum c.args.path c.args.depth incumbent (omega (arith, p.0.old_max, p.1, c.if-depth-self.false))
+    (omega (arith, p.1, c.if-depth-self.false)) p.0.new_max
+    (c.candidates-candidates.ensures ∙ lent_candidates c.args.self.problem c.args.self.sets.now c.args.path c.args.depth p.0
+    (omega (arith, p.1, c.if-depth-self.false)) (omega (arith, p.0.old_max, p.1))))

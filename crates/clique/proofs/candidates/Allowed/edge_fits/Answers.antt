@@ -1,8 +1,8 @@
--- `clique::candidates::edge_fits` meets its contract: at each return the tests that led there say what the definition computes to.
+-- `clique::candidates::Allowed::edge_fits` meets its contract: at each return the tests that led there say what the definition computes to.
 -- Assumes nothing.
 use borrow.Author.Tests.{eq-eqb, ne_eqb}
 use native.Mathlib.Omega.{arith}
-use Rattle.clique.proofs.candidates.edge_fits.Goals as goal
+use Rattle.clique.proofs.candidates.Allowed.edge_fits.Goals as goal
 
 pub returns-then-entry-eq-UNMAPPED : goal.returns-then-entry-eq-UNMAPPED
 returns-then-entry-eq-UNMAPPED c = simp (eq-eqb _ _ c.if-entry-eq-UNMAPPED.true)
