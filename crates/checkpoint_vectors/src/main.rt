@@ -325,7 +325,14 @@ fn full(rt: &impl Print) -> io::Result<()> {
     if graph_writer::to_edition_2(&earlier, &mut graph).is_err() {
         println!(rt; "not moved")?;
     }
-    case(rt, "64 vertices at full depth", &graph, &graph, b"", &all_mapped())
+    case(
+        rt,
+        "64 vertices at full depth",
+        &graph,
+        &graph,
+        b"",
+        &all_mapped(),
+    )
 }
 
 // Loads no bytes at all for two graphs without edges, the old one of this order, which both have this label at 63 and no other.

@@ -13,13 +13,11 @@ pub fn other_than<T: Copy + PartialEq>(value: T, table: &[T]) -> usize
 
 // Numbers with a space before each.
 #[derive(Clone, Copy)]
-pub struct Row<'a, T> {
-    pub numbers: &'a [T],
-}
+pub struct Row<'a, T>(pub &'a [T]);
 
 impl<'a, T: fmt::Display> fmt::Display for Row<'a, T> {
     fn fmt<W: fmt::Write>(&self, f: &mut fmt::Formatter<W>) -> fmt::Result {
-        for number in self.numbers {
+        for number in self.0 {
             write!(f, " {number}")?;
         }
         Ok(())

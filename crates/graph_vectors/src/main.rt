@@ -29,17 +29,12 @@ fn print_read(
     match read {
         Ok(order) => {
             print!(rt; ": order {order}, labels {labels_used}, edge entries {edges_used}")?;
-            let mut out = [0u8; 8515];
-            write_into(
-                rt,
-                ", back",
-                Graph {
-                    order,
-                    labels,
-                    edges,
-                },
-                &mut out,
-            )
+            let graph = Graph {
+                order,
+                labels,
+                edges,
+            };
+            write_into(rt, ", back", graph, &mut [0; 8515])
         }
         Err(error) => {
             print!(rt; ": {}", error.number())?;
@@ -272,33 +267,21 @@ fn openings(rt: &impl Print) -> io::Result<()> {
 }
 
 fn labels_read(rt: &impl Print) -> io::Result<()> {
-    let mut labels = [9u16; 64];
-    let mut edges = [9u8; 4096];
+    let mut tables = Tables {
+        labels: [9; 64],
+        edges: [9; 4096],
+    };
     read_into(
         rt,
         "labels 256, 263, 65535, 7 and 255",
         b"\x04\x02\x03\x00\x01\x03\x07\x01\x03\xff\xff\x03\x07\x00\x03\xff\x00\x00",
-        &mut labels,
-        &mut edges,
+        &mut tables.labels,
+        &mut tables.edges,
     )?;
-    println!(rt;
-        "labels read:{}",
-        Row {
-            numbers: &labels[..5]
-        }
-    )?;
+    println!(rt; "labels read:{}", Row(&tables.labels[..5]))?;
     let mut out = [9u8; 18];
-    write_into(
-        rt,
-        "written",
-        Graph {
-            order: 5,
-            labels: &labels,
-            edges: &edges,
-        },
-        &mut out,
-    )?;
-    println!(rt; "their bytes:{}", Row { numbers: &out })
+    write_into(rt, "written", tables.graph(5), &mut out)?;
+    println!(rt; "their bytes:{}", Row(&out))
 }
 
 // Reads a file of one edition for the other, into tables that hold 9 everywhere.
@@ -350,30 +333,34 @@ fn wide_labels(rt: &impl Print) -> io::Result<()> {
     )
 }
 
-fn read_front(rt: &impl Print, name: &str, file: &[u8], count: usize) -> io::Result<()> {
-    if count <= file.len() {
-        read(rt, name, &file[..count])?;
-    }
-    Ok(())
-}
-
 fn many_vertices(rt: &impl Print) -> io::Result<()> {
     let full = vertices(64);
-    read_front(rt, "64 vertices", &full, 195)?;
+    read(rt, "64 vertices", &full[..195])?;
     let mut more = vertices(65);
     read(rt, "a 65th vertex", &more)?;
     more[195] = 0;
     read(rt, "a 65th vertex with label 0", &more)?;
     moves::back(rt, "a 65th vertex with label 0 moved back", &more)?;
-    read_front(rt, "a 65th vertex without label", &more, 195)?;
-    read_front(rt, "a 65th vertex with half a label", &more, 196)?;
+    read(rt, "a 65th vertex without label", &more[..195])?;
+    read(rt, "a 65th vertex with half a label", &more[..196])?;
     more[196] = 1;
     read(rt, "a 65th vertex with label 256", &more)?;
     moves::back(rt, "a 65th vertex with label 256 moved back", &more)
 }
 
-// Every edge between two of 64 vertices, with label 5.
-fn complete_graph(rt: &impl Print) -> io::Result<()> {
+// Into a buffer of its length, from there into tables, and into one that is a byte shorter and holds 3 everywhere.
+fn write_and_read(rt: &impl Print, name: &str, graph: Graph<'_>, out: &mut [u8]) -> io::Result<()>
+    requires { 1 ≤ length out.old }
+{
+    write_into(rt, name, graph, out)?;
+    read(rt, name, out)?;
+    out.fill(3);
+    print!(rt; "{name}")?;
+    write_into(rt, ", one byte short", graph, &mut out[1..])
+}
+
+// Every edge between two of 64 vertices, with label 5, and then those of a vertex with itself.
+fn complete_graphs(rt: &impl Print) -> io::Result<()> {
     let mut tables = Tables {
         labels: [65535; 64],
         edges: [5; 4096],
@@ -381,37 +368,13 @@ fn complete_graph(rt: &impl Print) -> io::Result<()> {
     for vertex in 0..64 {
         tables.edges[65 * vertex] = 0;
     }
-    let mut out = [0u8; 8259];
-    write_into(rt, "complete graph", tables.graph(64), &mut out)?;
-    read(rt, "complete graph", &out)?;
-    let mut short = [3u8; 8258];
-    write_into(
-        rt,
-        "complete graph, one byte short",
-        tables.graph(64),
-        &mut short,
-    )
-}
-
-fn complete_graph_with_own_edges(rt: &impl Print) -> io::Result<()> {
-    let tables = Tables {
-        labels: [65535; 64],
-        edges: [5; 4096],
-    };
-    let mut out = [0u8; 8515];
-    write_into(
+    write_and_read(rt, "complete graph", tables.graph(64), &mut [0; 8259])?;
+    tables.edges.fill(5);
+    write_and_read(
         rt,
         "complete graph with own edges",
         tables.graph(64),
-        &mut out,
-    )?;
-    read(rt, "complete graph with own edges", &out)?;
-    let mut short = [3u8; 8514];
-    write_into(
-        rt,
-        "complete graph with own edges, one byte short",
-        tables.graph(64),
-        &mut short,
+        &mut [0; 8515],
     )
 }
 
@@ -426,7 +389,7 @@ fn written_order(rt: &impl Print) -> io::Result<()> {
     tables.edges[65] = 5;
     let mut out = [9u8; 21];
     write_into(rt, "every edge of two vertices", tables.graph(2), &mut out)?;
-    println!(rt; "their bytes:{}", Row { numbers: &out })
+    println!(rt; "their bytes:{}", Row(&out))
 }
 
 fn read_into_ill_sized(rt: &impl Print) -> io::Result<()> {
@@ -481,11 +444,18 @@ fn unsound_labels(rt: &impl Print) -> io::Result<()> {
     check(rt, "two vertices, one with label 256", tables.graph(2))
 }
 
-fn unsound_edges(rt: &impl Print) -> io::Result<()> {
+// Two vertices and the edge between them: both its bytes are 5 where the graph is sound.
+fn joined(second: Label, back: u8) -> Tables {
     let mut tables = Tables::empty();
     tables.labels[0] = 7;
-    tables.labels[1] = 9;
+    tables.labels[1] = second;
     tables.edges[1] = 5;
+    tables.edges[64] = back;
+    tables
+}
+
+fn unsound_edges(rt: &impl Print) -> io::Result<()> {
+    let mut tables = joined(9, 0);
     check(rt, "edge one way only", tables.graph(2))?;
     tables.edges[64] = 6;
     check(rt, "edge with two labels", tables.graph(2))?;
@@ -544,28 +514,15 @@ fn count_tables(rt: &impl Print, order: usize) -> io::Result<()>
     println!(rt; "order {order}: sound with one edge byte {one}, with two {both}")
 }
 
-// Two vertices and the edge between them: both its bytes are 5 where the graph is sound.
-fn joined(second: Label, back: u8) -> Tables {
-    let mut tables = Tables::empty();
-    tables.labels[0] = 7;
-    tables.labels[1] = second;
-    tables.edges[1] = 5;
-    tables.edges[64] = back;
-    tables
-}
-
 // Into a buffer of 12 bytes.
 fn write_short(rt: &impl Print, name: &str, graph: Graph<'_>) -> io::Result<()> {
-    let mut out = [9u8; 12];
-    write_into(rt, name, graph, &mut out)
+    write_into(rt, name, graph, &mut [9; 12])
 }
 
 fn room_for_output(rt: &impl Print) -> io::Result<()> {
     let sound = joined(9, 5);
-    let mut just = [9u8; 13];
-    write_into(rt, "just room", sound.graph(2), &mut just)?;
-    let mut more = [9u8; 16];
-    write_into(rt, "more room", sound.graph(2), &mut more)?;
+    write_into(rt, "just room", sound.graph(2), &mut [9; 13])?;
+    write_into(rt, "more room", sound.graph(2), &mut [9; 16])?;
     write_short(rt, "no room", sound.graph(2))?;
     write_short(rt, "unsound and no room", joined(9, 0).graph(2))?;
     let unsound = joined(0, 0);
@@ -583,8 +540,7 @@ fn main(rt: HostRuntime) -> io::Result<()> {
     wide_labels(&rt)?;
     labels_read(&rt)?;
     many_vertices(&rt)?;
-    complete_graph(&rt)?;
-    complete_graph_with_own_edges(&rt)?;
+    complete_graphs(&rt)?;
     written_order(&rt)?;
     read_into_ill_sized(&rt)?;
     ill_sized_tables(&rt)?;

@@ -24,9 +24,7 @@ fn move_into(
 ) -> io::Result<()> {
     match move_to(to, bytes, out) {
         Ok(count) => {
-            let moved = Row {
-                numbers: &out[..count.min(out.len())],
-            };
+            let moved = Row(&out[..count.min(out.len())]);
             print!(rt; "{name}:{moved}")?;
         }
         Err(error) => {
@@ -40,13 +38,11 @@ fn move_into(
 }
 
 fn up(rt: &impl Print, name: &str, bytes: &[u8]) -> io::Result<()> {
-    let mut out = [170u8; 64];
-    move_into(rt, name, Edition::Two, bytes, &mut out)
+    move_into(rt, name, Edition::Two, bytes, &mut [170; 64])
 }
 
 pub fn back(rt: &impl Print, name: &str, bytes: &[u8]) -> io::Result<()> {
-    let mut out = [170u8; 64];
-    move_into(rt, name, Edition::One, bytes, &mut out)
+    move_into(rt, name, Edition::One, bytes, &mut [170; 64])
 }
 
 // 01's byte examples, as they stand there, and its pair P.
@@ -181,45 +177,47 @@ pub fn there_and_back(rt: &impl Print) -> io::Result<()> {
 
 // A buffer that is too short is told last.
 pub fn room(rt: &impl Print) -> io::Result<()> {
-    let mut six = [170u8; 6];
-    let mut five = [170u8; 5];
     move_into(
         rt,
         "one byte short up",
         Edition::Two,
         b"\x01\x07\x00",
-        &mut five,
+        &mut [170; 5],
     )?;
-    move_into(rt, "just room up", Edition::Two, b"\x01\x07\x00", &mut six)?;
-    let mut three = [170u8; 3];
-    let mut two = [170u8; 2];
+    move_into(
+        rt,
+        "just room up",
+        Edition::Two,
+        b"\x01\x07\x00",
+        &mut [170; 6],
+    )?;
     move_into(
         rt,
         "no room and a label above 255 back",
         Edition::One,
         b"\x04\x02\x03\x00\x01\x00",
-        &mut two,
+        &mut [170; 2],
     )?;
     move_into(
         rt,
         "no room and a byte after the end back",
         Edition::One,
         b"\x04\x02\x03\x07\x00\x00\x00",
-        &mut two,
+        &mut [170; 2],
     )?;
     move_into(
         rt,
         "one byte short back",
         Edition::One,
         b"\x04\x02\x03\x07\x00\x00",
-        &mut two,
+        &mut [170; 2],
     )?;
     move_into(
         rt,
         "just room back",
         Edition::One,
         b"\x04\x02\x03\x07\x00\x00",
-        &mut three,
+        &mut [170; 3],
     )
 }
 
