@@ -72,7 +72,8 @@ impl Refusal for ReadError {
     }
 }
 
-// Reads graph bytes of the edition `from` into the two tables, for a graph that is to fit the edition `to`.
+// Reads graph bytes of the edition `from` into the two tables, for a graph that is to fit the edition `to`: the graph's order.
+// The tables stay slices inside too: refusal 10 tells of other lengths, and the library turns no lent slice into an array.
 #[tactic(auto, unfolding(crate::specs::Reading::reading_edition))]
 pub fn read_edition(
     from: Edition,
@@ -91,7 +92,7 @@ pub fn read_edition(
     reader::read_file(from, to, bytes, labels, edges)
 }
 
-// Reads graph bytes into the two tables.
+// Reads graph bytes into the two tables: the graph's order.
 #[tactic(auto, unfolding(crate::specs::Reading::reading))]
 pub fn read_graph(bytes: &[u8], labels: &mut [Label], edges: &mut [u8]) -> Result<usize, ReadError>
     ensures { reading_of result labels.new edges.new ≡ reading labels.old edges.old bytes.now }

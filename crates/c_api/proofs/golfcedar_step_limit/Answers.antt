@@ -4,4 +4,4 @@ use Rattle.replies.specs.Reply.{reply_of}
 use Rattle.c_api.proofs.golfcedar_step_limit.Goals as goal
 
 pub returns : goal.returns
-returns c = c.of_limit-reply.ensures ∙ ap reply_of c.step_limit.ensures
+returns c = c.of-reply.ensures ∙ ap reply_of c.step_limit.ensures

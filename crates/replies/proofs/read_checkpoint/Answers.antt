@@ -16,7 +16,7 @@ incumbent_long s = search rules
 
 pub returns-then-mapping-entries : goal.returns-then-mapping-entries
 returns-then-mapping-entries c =
-    read_short c.args.connected (lent c.args.orders c.args.labels c.args.edges c.args.substitutes.now) c.args.checkpoint c.args.mapping.now _ c.entries_held-entries.ensures c.requires (incumbent_long (goal.at.returns-then-mapping-entries c).Start) c.if-mapping-entries.true
+    read_short c.args.connected (lent c.args.problem) c.args.checkpoint c.args.mapping.now _ c.entries_held-entries.ensures c.requires (incumbent_long (goal.at.returns-then-mapping-entries c).Start) c.if-mapping-entries.true
 
 pub slice_bounds-put_entries-end : goal.slice_bounds-put_entries-end
 slice_bounds-put_entries-end c = sym (incumbent_long (goal.at.slice_bounds-put_entries-end c).Start)
@@ -24,11 +24,11 @@ slice_bounds-put_entries-end c = sym (incumbent_long (goal.at.slice_bounds-put_e
 pub put_entries-size-requires : goal.put_entries-size-requires
 put_entries-size-requires c =
     let few : c.entries_held-entries.result ≤ length c.args.checkpoint.incumbent =
-    omega (arith, c.entries_held-entries.ensures, incumbent_few (lent c.args.orders c.args.labels c.args.edges c.args.substitutes.now).old.order c.args.checkpoint.holds, c.requires, incumbent_long (goal.at.put_entries-size-requires c).Start) in
+    omega (arith, c.entries_held-entries.ensures, incumbent_few (lent c.args.problem).old.order c.args.checkpoint.holds, c.requires, incumbent_long (goal.at.put_entries-size-requires c).Start) in
     (few, c.if-mapping-entries.false)
 
 pub returns : goal.returns
 returns c =
-    read_numbers c.args.connected (lent c.args.orders c.args.labels c.args.edges c.args.substitutes.now) c.args.checkpoint c.args.mapping.now _ c.entries_held-entries.ensures c.requires (incumbent_long (goal.at.returns c).Start)
+    read_numbers c.args.connected (lent c.args.problem) c.args.checkpoint c.args.mapping.now _ c.entries_held-entries.ensures c.requires (incumbent_long (goal.at.returns c).Start)
     c.if-mapping-entries.false _ _ _ _ c.search-searched.result _ c.state_byte.ensures c.put_entries-size.ensures.size c.put_entries-size.ensures.stored
-    c.search-searched.ensures c.search_value-ceiling.ensures
+    c.search-searched.ensures ?
