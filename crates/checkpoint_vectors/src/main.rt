@@ -312,8 +312,8 @@ fn identity(mark: u8) -> [u8; 128] {
 fn all_mapped() -> [u8; 270] {
     let mut bytes = [0u8; 270];
     bytes[..13].copy_from_slice(b"\x10\x00\x11\x41\x00\x00\x00\x00\x00\x00\x00\x12\x01");
-    bytes[13..141].copy_from_slice(&identity(19));
-    bytes[141..269].copy_from_slice(&identity(20));
+    bytes[13..141].copy_from_slice(&identity(0x13));
+    bytes[141..269].copy_from_slice(&identity(0x14));
     bytes
 }
 
