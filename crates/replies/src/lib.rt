@@ -221,10 +221,9 @@ fn read_checkpoint<'a>(
     let ceiling = searched.answer.unwrap_or(0) as u64;
     let size = held::put_entries(&incumbent, entries, mapping);
     ReadReply {
-        reply: Reply::accepted(checkpoint_saver::state_byte(
-            checkpoint.finished,
-            checkpoint.holds,
-        ) as u64),
+        reply: Reply::accepted(
+            checkpoint_saver::state_byte(checkpoint.finished, checkpoint.holds) as u64,
+        ),
         steps: checkpoint.steps,
         size,
         ceiling,
