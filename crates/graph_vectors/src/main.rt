@@ -501,17 +501,25 @@ fn is_sound_with(order: usize, place: usize, other: usize) -> bool
 }
 
 // How many edge tables are sound, at that order, that have one byte other than 0, or two, those of an edge both ways.
+fn sound_tables(order: usize, both_ways: bool) -> usize
+    requires { order ≤ 64 }
+    ensures { result ≤ 4096 }
+{
+    (0..4096)
+        .filter(|place| {
+            let back = 64 * (*place % 64) + *place / 64;
+            is_sound_with(order, *place, if both_ways { back } else { *place })
+        })
+        .count()
+}
+
 // One byte is the edge of a vertex with itself, at n places; of all places n * n are those of an edge of n vertices.
 fn count_tables(rt: &impl Print, order: usize) -> io::Result<()>
     requires { order ≤ 64 }
 {
-    let one = (0..4096)
-        .filter(|place| is_sound_with(order, *place, *place))
-        .count();
-    let both = (0..4096)
-        .filter(|place| is_sound_with(order, *place, 64 * (*place % 64) + *place / 64))
-        .count();
-    println!(rt; "order {order}: sound with one edge byte {one}, with two {both}")
+    let one = sound_tables(order, false);
+    let two = sound_tables(order, true);
+    println!(rt; "order {order}: sound with one edge byte {one}, with two {two}")
 }
 
 // Into a buffer of 12 bytes.
