@@ -1,5 +1,5 @@
 -- What an error says is a refusal, and a refusal is handed on.
-use mathlib.Core.Path.{◌≡◌, refl, ap, sym}
+use mathlib.Core.Path.{◌≡◌, refl, sym}
 use mathlib.Core.Bool.{true, true≢false}
 use Prim.Native.Nat.{ℕ}
 use Rattle.answers.specs.Answer.{Answer, passed, accepted, refused, refused_at, is_refused, when_passed, when_accepted}

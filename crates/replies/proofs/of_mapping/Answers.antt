@@ -1,11 +1,10 @@
 -- `replies::of_mapping` meets its contract: the number, the value and the earlier row are the answer's. Assumes nothing.
-use mathlib.Core.Path.{◌≡◌, refl, ap, ap₂, ◌∙◌}
+use mathlib.Core.Path.{◌≡◌, refl, ap₂, ◌∙◌}
 use Prim.Native.Nat.{ℕ}
 use Rattle.std.specs.Prelude.{Result, Ok, Err}
 use Rattle.answers.specs.Answer.{counted}
 use Rattle.mapping.specs.declared.MappingError.{MappingError}
 use Rattle.mapping.specs.Answers.{Outcome, accepted, refused, refused_row, refused_rows, outcome_number, outcome_answer, mapping_refusal, mapping_outcome, fault_outcome}
-use Rattle.replies.specs.declared.Reply.{Reply}
 use Rattle.replies.specs.Reply.{reply, reply_of}
 use Rattle.replies.specs.Checked.{checked, outcome_value}
 use Rattle.replies.proofs.of_mapping.Goals as goal

@@ -1,5 +1,4 @@
 -- `replies::read_out` meets its contract: what is loaded is read out, a refusal is handed on (`CallArms`). Assumes nothing.
-use mathlib.Core.Path.{sym}
 use Rattle.problem.specs.Lent.{lent}
 use Rattle.replies.proofs.CallArms.{load_order, load_read, load_not_read}
 use Rattle.replies.proofs.read_out.Goals as goal
