@@ -1,16 +1,18 @@
 // The tables of a call's own, into which the graphs of both byte slices are read.
 
-ghost use Rattle.std.specs.Prelude.{◌≡◌, replicate};
+ghost use Rattle.std.specs.Prelude.{◌≡◌};
 ghost use Rattle.graph.specs.Graph.{graph};
 ghost use Rattle.problem.specs.Problem.{problem as problem_of, substituting};
 ghost use Rattle.problem.specs.Lent.{lent};
 ghost use Rattle.problem_reader.specs.Answers.{problem_reading_of};
 ghost use Rattle.problem_reader.specs.ProblemReading.{reading_problem};
+ghost use Rattle.c_api.specs.Graphs.{IsEmpty};
 
 use graph::{EDGE_BYTES, Graph, Label, MAX_ORDER};
 use graph_reader::ReadError;
 use problem::Problem;
 
+#[derive(Drop)]
 pub struct Graphs {
     pub old_labels: [Label; MAX_ORDER],
     pub old_edges: [u8; EDGE_BYTES],
@@ -20,8 +22,7 @@ pub struct Graphs {
 
 impl Graphs {
     pub fn empty() -> Graphs
-        ensures old { (result.old_labels ≡ replicate 64 0) × (result.old_edges ≡ replicate 4096 0) }
-        ensures new { (result.new_labels ≡ replicate 64 0) × (result.new_edges ≡ replicate 4096 0) }
+        ensures { IsEmpty result }
     {
         Graphs {
             old_labels: [0; MAX_ORDER],

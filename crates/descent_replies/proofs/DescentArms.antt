@@ -1,7 +1,7 @@
 -- What a descent call from checkpoint bytes returns, arm by arm of the answers that the code matches on.
 use mathlib.Core.Path.{◌≡◌, sym, ap, subst, ◌∙◌}
 use mathlib.Core.Bool.{Bool}
-use mathlib.Core.List.{List, [], ◌∷◌}
+use mathlib.Core.List.{List}
 use Prim.Native.Nat.{ℕ, ◌≤◌}
 use lib.ListN.{length}
 use Rattle.answers.specs.Answer.{Answer, accepted, when_accepted}

@@ -52,7 +52,14 @@ fn descend_apart<'a>(
 {
     let mut own = [0u64; WORDS];
     let used = replies::words_used(words);
-    descend::descend(problem, connected, floor, checkpoint, budget, &mut own[..used])
+    descend::descend(
+        problem,
+        connected,
+        floor,
+        checkpoint,
+        budget,
+        &mut own[..used],
+    )
 }
 
 // The descent call, and its checkpoint saved; only then does the lent workspace become what the call leaves.

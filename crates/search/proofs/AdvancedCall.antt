@@ -19,7 +19,7 @@ use Rattle.search.specs.declared.walk.Walk.{Walk}
 use Rattle.checkpoint.specs.declared.Checkpoint.{Checkpoint}
 use Rattle.checkpoint.specs.Checkpoints.{state_of, InShape}
 use Rattle.search.specs.Call.{Called, visits, advance}
-use Rattle.search.specs.Words.{Masks, First, open_rows, Words}
+use Rattle.search.specs.Words.{Masks, open_rows, Words}
 use Rattle.search.specs.Walking.{Setting, AtNode, InBounds, Ready, Arrives, Starts}
 use Rattle.search.proofs.NodeWords.{open_rows_max, size_take_max, node_bound, node_full, node_bounded}
 use Rattle.search.proofs.ReachedBounds.{reached_in_bounds}
@@ -31,6 +31,10 @@ use Rattle.checkpoint.proofs.StateShape.{state_in_shape}
 all_cleared : (m : ℕ) (zeros before after cleared : List ℕ) → length before ≤ m → length after ≤ m → cleared ≡ zeros ++ drop m before
     → cleared ≡ zeros ++ drop m after
 all_cleared m zeros before after cleared few few' e = e ∙ ap (◌++◌ zeros) (drop_of_length-le before few ∙ sym (drop_of_length-le after few'))
+
+-- A sound problem, with the masks filled in, is what the code is lent.
+pub call_setting : {P : Problem} {masks : List ℕ} → SoundProblem P → Masks (graph P.new.order [] P.new.edges) masks → Setting P P.old.order P.old.edges masks
+call_setting sound filled = record { sound = sound; order_is = refl; edges_is = refl; masks_are = filled }
 
 -- what an accepted call starts from: a sound problem, and a checkpoint in shape, with its arrays of 64 bytes
 pub record Accepted (connected : Bool) (P : Problem) (c : Checkpoint) : Type 0 where
@@ -45,15 +49,10 @@ module _ {connected : Bool} {P : Problem} {c : Checkpoint} (call : Accepted conn
   unfolding state_of
   shape_reached = (state_in_shape connected P call.sound c call.path_long call.shape).reached
 
-  -- The problem, with the masks filled in, is what the code is lent.
-  pub call_setting : {masks : List ℕ} → Masks (graph P.new.order [] P.new.edges) masks → Setting P P.old.order P.old.edges masks
-  call_setting filled = record { sound = call.sound; order_is = refl; edges_is = refl; masks_are = filled }
-
   -- The checkpoint's path is in bounds.
-  pub call_bounds : {masks first ws : List ℕ} → Masks (graph P.new.order [] P.new.edges) masks → First P.old.edges first
-      → 4160 ≤ length ws → InBounds P.old.edges masks first c.path c.depth (size (take c.depth c.path)) ws
-  call_bounds filled first_are room =
-      reached_in_bounds c.path c.depth (call_setting filled) first_are shape_reached call.shape.depth_max call.path_long room
+  pub call_bounds : {masks ws : List ℕ} → Masks (graph P.new.order [] P.new.edges) masks → 4160 ≤ length ws
+      → InBounds c.path c.depth (size (take c.depth c.path)) ws
+  call_bounds filled room = reached_in_bounds c.path c.depth (call_setting call.sound filled) shape_reached call.shape.depth_max call.path_long room
 
   -- Once the words of its path are there, the checkpoint is at a node,
   call_node : {ws : List ℕ} {pairs : ℕ} → 4160 ≤ length ws → pairs ≡ size (take c.depth c.path) → Words P c.path c.depth ws

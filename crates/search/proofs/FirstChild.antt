@@ -3,7 +3,7 @@ use mathlib.Core.Path.{◌≡◌, refl, sym}
 use mathlib.Core.Logic.{inl, inr}
 use mathlib.Core.Bool.{false}
 use mathlib.Core.List.{List, ◌∷◌}
-use Prim.Native.Nat.{ℕ, ◌+◌, ◌%◌, ◌<◌}
+use Prim.Native.Nat.{ℕ, ◌+◌, ◌<◌}
 use native.Mathlib.Nat.{le_refl}
 use native.Mathlib.Numerals.{add-one}
 use native.Mathlib.Omega.{arith}
@@ -51,14 +51,13 @@ module _ {P : Problem} (sound : SoundProblem P) {path ws : List ℕ} {depth pair
       rw (moved_stored node.path_length inner64 moved) at whole
 
   -- The least member of the row's word is stored: the first child takes it.
-  pub child_taken : {v last later : ℕ} {path' : List ℕ} → least_member (level_word ws pairs depth) ≡ Some v → Moved path (depth + 1) (v % 256) path'
+  pub child_taken : {v last later : ℕ} {path' : List ℕ} → least_member (level_word ws pairs depth) ≡ Some v → Moved path (depth + 1) v path'
       → Descends P path depth ws (record { depth = depth + 1; pairs = pairs + 1; finished = false; last = last; later = later }) path'
   child_taken {v} e moved =
       let small = (least_below_member 64 _ e).below in
-      let stored : v % 256 ≡ v = omega arith in
       let first = first_taken P sound (omega (arith, node_length sound node)) own_words {v = v} (rw (node_length sound node, ← node.pairs_are) e) in
       let one = counted_mapped v (λ u. omega arith) in
-      descends (inr first.is_candidate) (omega arith) first.children_are (rw stored at moved)
+      descends (inr first.is_candidate) (omega arith) first.children_are moved
 
   -- The row's word is empty: the first child leaves the row out.
   pub child_left_out : {last later : ℕ} {path' : List ℕ} → least_member (level_word ws pairs depth) ≡ None → Moved path (depth + 1) unmapped path'

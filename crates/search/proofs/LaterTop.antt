@@ -32,10 +32,11 @@ pub record LevelsHead (edges masks path ws ws' : List ℕ) (depth pairs least k 
   pub kept : SameLevels left ws ws'
   pub tops : (P : Problem) → Setting P P.old.order edges masks → AtNode P path depth pairs ws → max least (later_top P path depth) ≡ max top (later_top P path k)
 
-module _ {edges masks first path ws : List ℕ} {depth pairs : ℕ} (bounds : InBounds edges masks first path depth pairs ws) where
-  inside : depth ≤ length path
-  inside = omega (arith, bounds.path_length, bounds.depth_max)
+-- the path goes as far as its depth
+inside : {path ws : List ℕ} {depth pairs : ℕ} → InBounds path depth pairs ws → depth ≤ length path
+inside bounds = omega (arith, bounds.path_length, bounds.depth_max)
 
+module _ {edges masks path ws : List ℕ} {depth pairs : ℕ} (bounds : InBounds path depth pairs ws) where
   -- Before the first level, all are left.
   pub levels_first : (least : ℕ) → LevelsHead edges masks path ws ws depth pairs least depth pairs least
   levels_first least = record { k_max = le_refl depth; left_is = bounds.pairs_are; kept = same_none pairs ws; tops = λ P setting node. omega arith }
@@ -45,7 +46,7 @@ module _ {edges masks first path ws : List ℕ} {depth pairs : ℕ} (bounds : In
     head = rw next at before
 
     row_inside : row < length path
-    row_inside = omega (arith, inside, head.k_max)
+    row_inside = omega (arith, inside bounds, head.k_max)
 
     -- A level that leaves its row out adds nothing.
     pub level_left_out : get_or path row 0 ≡ unmapped → LevelsHead edges masks path ws ws' depth pairs least row left top
@@ -112,6 +113,6 @@ module _ {edges masks first path ws : List ℕ} {depth pairs : ℕ} (bounds : In
       → (P : Problem) → Setting P P.old.order edges masks → AtNode P path depth pairs ws → top ≡ max least (later_top P (take depth path) depth)
   levels_all {ws'} {least} {k} {left} {top} e head P setting node =
       let R = rules_of P in
-      let same = later_siblings_append R (take depth path) (drop depth path) depth (omega (arith, length-take-le depth path inside)) in
+      let same = later_siblings_append R (take depth path) (drop depth path) depth (omega (arith, length-take-le depth path (inside bounds))) in
       let whole = ap (λ (l : List ℕ). later_siblings R l depth) (take-append-drop depth path) in
       omega (arith, head.tops P setting node, ap (later_top P path) e, top_bound_root R path, ap (top_bound R) (sym whole ∙ same))

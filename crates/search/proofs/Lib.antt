@@ -14,6 +14,7 @@ pub mod MovedPath
 pub mod MetParts
 pub mod NextSibling
 pub mod NodeWords
+pub mod PairMoves
 pub mod ReachedBounds
 pub mod ReadyWalk
 pub mod RebuildTurn

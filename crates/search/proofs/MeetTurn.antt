@@ -13,11 +13,11 @@ use lib.Seq.{get_or-set_same, get_or-set_other}
 use borrow.Author.Tests.{eq-eqb, ne_eqb}
 use Rattle.bitset.specs.Members.{member, insert}
 use Rattle.bitset.specs.Count.{count_below, size}
-use Rattle.bitset.specs.Least.{least_member, without_least}
+use Rattle.bitset.specs.Least.{least_member, least_above, without_least}
 use Rattle.std.specs.Prelude.{Some, None}
 use Rattle.bitset.proofs.SetOf.{member_set_of}
 use Rattle.bitset.proofs.CountBelow.{count_below_congr, count_below_zero, count_below_one, count_below_mono}
-use Rattle.bitset.proofs.LeastBelow.{least_below_member, least_below_empty}
+use Rattle.bitset.proofs.LeastBelow.{least_below_member, least_above_member, least_below_empty}
 use Rattle.bitset.proofs.WithoutLeast.{member_without_least, without_least_smaller, size_without_least}
 use Rattle.search.specs.Words.{lost_rows, Met}
 use Rattle.search.specs.declared.words.Kept.{Kept}
@@ -36,6 +36,21 @@ pub record MetTo (s : ℕ) (word : ℕ → ℕ) (level : ℕ) (ws : List ℕ) (r
   pub gathered : (m : ℕ) → m < 64 → member rows m ≡ (member rows₀ m || (rows_done s rest m && not (eqb (word m) 0)))
   pub counted : left + count_below 64 (λ m. rows_done s rest m && eqb (word m) 0) ≡ left₀
   pub enough : size rest ≤ left
+
+-- A row that was found is below 64.
+pub row_inside : (rest r : ℕ) → least_member rest ≡ Some r → r < 64
+row_inside rest r found = (least_below_member 64 (member rest) found).below
+
+pub row_above_inside : (s i r : ℕ) → least_above s i ≡ Some r → r < 64
+row_above_inside s i r found = (least_above_member s i found).below
+
+-- Without it a set is smaller,
+pub rest_falls : (rest r : ℕ) → rest < 2 ^ 64 → least_member rest ≡ Some r → without_least rest < rest
+rest_falls rest r small found = without_least_smaller rest r small found
+
+-- and not empty with it.
+pub some_left : (rest r : ℕ) → least_member rest ≡ Some r → 1 ≤ size rest
+some_left rest r found = omega (arith, size_without_least rest r found)
 
 module _ {s : ℕ} {word : ℕ → ℕ} {level : ℕ} {ws : List ℕ} {rows₀ left₀ : ℕ} where
   -- At first all rows of the set are left.

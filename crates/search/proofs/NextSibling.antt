@@ -3,7 +3,7 @@ use mathlib.Core.Path.{◌≡◌, refl, sym, ◌∙◌}
 use mathlib.Core.Logic.{◌≢◌, ◌⊎◌, inl, inr, ⊎_elim}
 use mathlib.Core.Bool.{true, false, true≢false}
 use mathlib.Core.List.{List, ◌∷◌}
-use Prim.Native.Nat.{ℕ, zero, suc, ◌+◌, ◌-◌, ◌%◌, ◌≤◌, ◌<◌}
+use Prim.Native.Nat.{ℕ, zero, suc, ◌+◌, ◌-◌, ◌≤◌, ◌<◌}
 use native.Mathlib.Nat.{le_refl}
 use native.Mathlib.Numerals.{add-one}
 use native.Mathlib.Decide.{ℕ_discrete}
@@ -139,18 +139,17 @@ module _ {P : Problem} (sound : SoundProblem P) {path ws : List ℕ} {depth pair
         rw (moved_stored node.path_length inner64 moved) at whole
 
     -- The least member above the row's value is stored: the sibling takes it.
-    pub sibling_taken : {v last later : ℕ} {path' : List ℕ} → least_above (level_word ws (pairs - 1) row) (get_or path row 0) ≡ Some v → Moved path (row + 1) (v % 256) path'
+    pub sibling_taken : {v last later : ℕ} {path' : List ℕ} → least_above (level_word ws (pairs - 1) row) (get_or path row 0) ≡ Some v → Moved path (row + 1) v path'
         → Retreats P path depth ws (record { depth = row + 1; pairs = pairs; finished = false; last = last; later = later }) path'
     sibling_taken {v} e moved =
         let before = pairs_before passed refl row_inside mapped in
         let level : pairs - 1 ≡ size (take row path) = omega arith in
         let found : least_above (level_word ws (size (take row path)) row) (get_or path row 0) ≡ Some v = rw level at e in
         let small = (least_above_member _ _ e).below in
-        let stored : v % 256 ≡ v = omega arith in
         let one = counted_mapped v (λ u. omega arith) in
         let next = next_taken P sound (omega (arith, row_inside)) row_inner row_words (get_or path row 0) {v = v} found in
         retreats (inr (rw (length-take-le row path (omega (arith, row_inside))) next.is_candidate)) (omega arith)
-        (siblings_taken P sound (omega (arith, row_inside)) row_inner row_words found) (rw stored at moved)
+        (siblings_taken P sound (omega (arith, row_inside)) row_inner row_words found) moved
 
     -- No member is above the row's value: the sibling leaves the row out.
     pub sibling_left_out : {last later : ℕ} {path' : List ℕ} → least_above (level_word ws (pairs - 1) row) (get_or path row 0) ≡ None → Moved path (row + 1) unmapped path'

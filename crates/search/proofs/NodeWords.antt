@@ -43,7 +43,7 @@ pub size_mapped : (path : List ℕ) (row : ℕ) → row < length path → (get_o
 size_mapped path row h mapped =
     rw (take_extend path row h) (omega (arith, size_extend (take row path) (get_or path row 0), counted_mapped (get_or path row 0) mapped))
 
-module _ {edges masks first path : List ℕ} {depth pairs : ℕ} {ws : List ℕ} (bounds : InBounds edges masks first path depth pairs ws) where
+module _ {path : List ℕ} {depth pairs : ℕ} {ws : List ℕ} (bounds : InBounds path depth pairs ws) where
   -- A node has no more pairs than rows.
   pub pairs_max : pairs ≤ depth
   pairs_max = omega (arith, bounds.pairs_are, size_take_max path depth)
@@ -144,13 +144,12 @@ module _ {P : Problem} {n : ℕ} {edges masks path ws : List ℕ} {depth pairs :
   node_bounded is words = record { low = λ h. omega arith; high = λ h. (is, words); words = words_shorter (omega arith) words }
 
   -- Where the last row took a new vertex, the rows that are counted give the bound, as far as it reaches the cutoff.
-  pub node_taken_bounded : {ws' : List ℕ} {cutoff need count : ℕ} → 0 < depth → (get_or path (depth - 1) 0 ≡ unmapped → ⊥)
-      → ((pairs < cutoff) × (need ≡ cutoff - pairs)) ⊎ ((cutoff ≤ pairs) × (need ≡ 0))
+  pub node_taken_bounded : {ws' : List ℕ} {cutoff need count : ℕ} → 0 < depth → (get_or path (depth - 1) 0 ≡ unmapped → ⊥) → need ≡ cutoff - pairs
       → Counted edges masks (depth - 1) (pairs - 1) (get_or path (depth - 1) 0) need ws ws' count → Bounded P path depth cutoff ws' (pairs + count)
   node_taken_bounded {ws'} {cutoff} {need} {count} h mapped asked counted = record {
-    low = λ l. ⊎_elim (λ some. omega (arith, bound, counted.few (fewer l))) (λ none. absurd (omega arith)) asked;
+    low = λ l. omega (arith, bound, counted.few (omega arith));
     high = λ l.
-        let all = counted.whole (enough l) in
+        let all = counted.whole (omega arith) in
         (ap (λ (k : ℕ). pairs + k) all.0 ∙ bound, node_taken h mapped all.1);
     words = words_kept P setting.sound (omega (arith, before)) counted.kept node.words;
   }
@@ -163,12 +162,6 @@ module _ {P : Problem} {n : ℕ} {edges masks path ws : List ℕ} {depth pairs :
           let deeper : depth - 1 + 1 ≡ depth = omega arith in
           let inside : depth - 1 < length path = omega (arith, node.depth_max, node.path_length, setting.sound.old_sound.order_max) in
           node.pairs_are ∙ (rw deeper at (size_mapped path (depth - 1) inside mapped))
-
-      fewer : pairs + count < cutoff → count < need
-      fewer l = ⊎_elim (λ some. omega arith) (λ none. omega arith) asked
-
-      enough : cutoff ≤ pairs + count → need ≤ count
-      enough l = ⊎_elim (λ some. omega arith) (λ none. omega arith) asked
 
 -- A count of rows, or a number below what is needed, is small.
 pub counted_max : {edges masks ws ws' : List ℕ} {row pairs value need count : ℕ} → Counted edges masks row pairs value need ws ws' count

@@ -1,5 +1,5 @@
 -- A path that the tree reaches keeps the code in bounds.
-use mathlib.Core.Path.{◌≡◌, refl, sym, ap, ◌∙◌}
+use mathlib.Core.Path.{◌≡◌, refl, sym, ◌∙◌}
 use mathlib.Core.Logic.{⊎_elim, inl, inr}
 use mathlib.Core.List.{List}
 use Prim.Native.Nat.{ℕ, ◌≤◌}
@@ -11,18 +11,14 @@ use Rattle.mapping.specs.Common.{size}
 use Rattle.search_tree.specs.Rules.{rules_of}
 use Rattle.search_tree.specs.Trees.{Reached}
 use Rattle.search_tree.proofs.Candidates.{candidate_value}
-use Rattle.search.specs.Words.{First}
 use Rattle.search.specs.Walking.{Setting, InBounds}
 use Rattle.search.proofs.ReadyWalk.{decided_length}
 
 -- A reached path of at most as many rows as there are is in bounds, over a workspace with room.
-pub reached_in_bounds : {P : Problem} {n : ℕ} {edges masks first : List ℕ} (path : List ℕ) (depth : ℕ) {ws : List ℕ} → Setting P n edges masks → First edges first
+pub reached_in_bounds : {P : Problem} {n : ℕ} {edges masks : List ℕ} (path : List ℕ) (depth : ℕ) {ws : List ℕ} → Setting P n edges masks
     → Reached (rules_of P) (take depth path) → depth ≤ P.old.order → length path ≡ 64 → 4160 ≤ length ws
-    → InBounds edges masks first path depth (size (take depth path)) ws
-reached_in_bounds {P} path depth setting first_are reached inside long room = record {
-  edges_length = ap length (sym setting.edges_is) ∙ setting.sound.old_sound.edges_length;
-  masks_length = setting.masks_are.words;
-  first_are = first_are;
+    → InBounds path depth (size (take depth path)) ws
+reached_in_bounds {P} path depth setting reached inside long room = record {
   path_length = long;
   room = room;
   depth_max = omega (arith, setting.sound.old_sound.order_max);

@@ -15,7 +15,8 @@ use Rattle.bitset.proofs.Membership.{member_zero}
 use Rattle.bitset.proofs.SetOf.{member_set_of, meet_empty}
 use Rattle.bitset.proofs.CountBelow.{count_below_congr, count_below_zero, count_below_parts}
 use Rattle.bitset.proofs.MembersFrom.{member_from}
-use Rattle.search.specs.Words.{open_set, met_word, near_word, far_word, Covers, lost_rows, Refined, meet_rows, Met, Counted}
+use Rattle.search.specs.Rows.{Covers}
+use Rattle.search.specs.Words.{open_set, met_word, near_word, far_word, lost_rows, Refined, meet_rows, Met, Counted}
 use Rattle.search.specs.declared.words.Kept.{Kept}
 use Rattle.search.proofs.Levels.{word_open, word_closed, same_none, below_same}
 use Rattle.search.proofs.LevelStores.{FilledTo, with_set, level_word_lem, level_member, level_below}

@@ -12,9 +12,10 @@ use Rattle.search_tree.specs.Search.{Search, search_of}
 use Rattle.search_tree.specs.Walk.{State, visit}
 use Rattle.search_tree.proofs.Steps.{visit_steps, visit_finished}
 use Rattle.checkpoint.specs.declared.Checkpoint.{Checkpoint}
+use Rattle.search.specs.declared.tables.Tables.{Tables}
 use Rattle.search.specs.declared.walk.Walk.{Walk}
 use Rattle.checkpoint.specs.Checkpoints.{checkpoint_of, state_of}
-use Rattle.search.specs.Walking.{Setting, Ready, Arrives, Resumes}
+use Rattle.search.specs.Walking.{Setting, Lends, Ready, Arrives, Resumes}
 use Rattle.search.specs.Call.{visits}
 use Rattle.checkpoint.proofs.CheckpointState.{state_of_checkpoint, checkpoint_of_state}
 use Rattle.checkpoint.proofs.StateShape.{state_in_shape}
@@ -46,26 +47,26 @@ unfolding checkpoint_of
 arrived_minimum there = ap (λ (c : Checkpoint). c.minimum) there.checkpoint_is
 
 -- One visit is one step.
-pub visited_steps : {connected : Bool} {n : ℕ} {edges masks first ws ws' : List ℕ} {w w' : Walk} → w.checkpoint.finished ≡ false → Resumes connected n edges masks first w ws
-    → Visits connected n edges masks w ws w' ws' → w'.checkpoint.steps ≡ w.checkpoint.steps + 1
+pub visited_steps : {t : Tables} {ws ws' : List ℕ} {w w' : Walk} → w.checkpoint.finished ≡ false → Resumes t w ws
+    → Visits t.connected t.order t.edges.now t.masks.now w ws w' ws' → w'.checkpoint.steps ≡ w.checkpoint.steps + 1
 unfolding checkpoint_of state_of
-visited_steps {connected} {w = w} busy resumes visited =
+visited_steps {t} {w = w} busy resumes visited =
     ap (λ (c : Checkpoint). c.steps) (visited resumes.problem resumes.setting resumes.ready).checkpoint_is
-    ∙ visit_steps (search_of connected resumes.problem) w.checkpoint.minimum (state_of resumes.problem.old.order w.checkpoint) busy
+    ∙ visit_steps (search_of t.connected resumes.problem) w.checkpoint.minimum (state_of resumes.problem.old.order w.checkpoint) busy
 
 -- The invariant: as many visits are made as steps, whatever the problem, and the walk is ready for another.
-pub record RanTo (connected : Bool) (budget n : ℕ) (edges masks first ws : List ℕ) (w : Walk) (ws' : List ℕ) (w' : Walk) : Type 0 where
+pub record RanTo (t : Tables) (budget : ℕ) (ws : List ℕ) (w : Walk) (ws' : List ℕ) (w' : Walk) : Type 0 where
   pub forward : w.checkpoint.steps ≤ w'.checkpoint.steps
   pub within : w'.checkpoint.steps ≤ w.checkpoint.steps + budget
   pub kept_length : length ws' ≡ length ws
-  pub resumes : Resumes connected n edges masks first w' ws'
-  pub arrives : (P : Problem) → Setting P n edges masks → Ready connected P w ws
-      → Arrives connected P w.checkpoint.minimum
-      (visits (search_of connected P) w.checkpoint.minimum (w'.checkpoint.steps - w.checkpoint.steps) (state_of P.old.order w.checkpoint)) w' ws'
+  pub resumes : Resumes t w' ws'
+  pub arrives : (P : Problem) → Lends P t → Ready t.connected P w ws
+      → Arrives t.connected P w.checkpoint.minimum
+      (visits (search_of t.connected P) w.checkpoint.minimum (w'.checkpoint.steps - w.checkpoint.steps) (state_of P.old.order w.checkpoint)) w' ws'
 
-module _ {connected : Bool} {budget n : ℕ} {edges masks first ws : List ℕ} {w : Walk} where
+module _ {t : Tables} {budget : ℕ} {ws : List ℕ} {w : Walk} where
   -- At first no visit is made.
-  pub ran_none : Resumes connected n edges masks first w ws → RanTo connected budget n edges masks first ws w ws w
+  pub ran_none : Resumes t w ws → RanTo t budget ws w ws w
   unfolding visits
   ran_none resumes = record {
     forward = le_refl _;
@@ -74,15 +75,15 @@ module _ {connected : Bool} {budget n : ℕ} {edges masks first ws : List ℕ} {
     resumes = resumes;
     arrives = λ P setting ready.
         let none : w.checkpoint.steps - w.checkpoint.steps ≡ 0 = omega arith in
-        let own = checkpoint_of_state connected P w.checkpoint setting.sound.old_sound.order_max ready.node.path_length ready.incumbent_length
+        let own = checkpoint_of_state t.connected P w.checkpoint setting.sound.old_sound.order_max ready.node.path_length ready.incumbent_length
         ready.shape in
         rw none (record { checkpoint_is = sym own; ready = ready });
   }
 
-  module _ {ws' : List ℕ} {w' : Walk} (ran : RanTo connected budget n edges masks first ws w ws' w') where
+  module _ {ws' : List ℕ} {w' : Walk} (ran : RanTo t budget ws w ws' w') where
     -- One visit more.
     pub ran_more : {ws'' : List ℕ} {w'' : Walk} → w'.checkpoint.steps < w.checkpoint.steps + budget → w'.checkpoint.finished ≡ false
-        → length ws'' ≡ length ws' → Visits connected n edges masks w' ws' w'' ws'' → RanTo connected budget n edges masks first ws w ws'' w''
+        → length ws'' ≡ length ws' → Visits t.connected t.order t.edges.now t.masks.now w' ws' w'' ws'' → RanTo t budget ws w ws'' w''
     unfolding visits
     ran_more {ws''} {w''} h busy same visited =
         let one = visited_steps busy ran.resumes visited in
@@ -93,7 +94,6 @@ module _ {connected : Bool} {budget n : ℕ} {edges masks first ws : List ℕ} {
           resumes = record {
             problem = ran.resumes.problem;
             setting = ran.resumes.setting;
-            first_are = ran.resumes.first_are;
             ready = (visited ran.resumes.problem ran.resumes.setting ran.resumes.ready).ready;
           };
           arrives = λ P setting ready.
@@ -103,25 +103,25 @@ module _ {connected : Bool} {budget n : ℕ} {edges masks first ws : List ℕ} {
               let more : w''.checkpoint.steps - w.checkpoint.steps ≡ suc made = omega (arith, ran.forward) in
               rw more (record {
                 checkpoint_is = there.checkpoint_is
-                    ∙ ap₂ (λ (m : ℕ) (s : State). checkpoint_of m (visit (search_of connected P) m s)) (arrived_minimum here) (arrived_state made setting ready here);
+                    ∙ ap₂ (λ (m : ℕ) (s : State). checkpoint_of m (visit (search_of t.connected P) m s)) (arrived_minimum here) (arrived_state made setting ready here);
                 ready = there.ready;
               });
         }
 
     -- A finished walk has made all visits of the budget.
-    ran_finished : w'.checkpoint.finished ≡ true → (P : Problem) → Setting P n edges masks → Ready connected P w ws
-        → Arrives connected P w.checkpoint.minimum (visits (search_of connected P) w.checkpoint.minimum budget (state_of P.old.order w.checkpoint)) w' ws'
+    ran_finished : w'.checkpoint.finished ≡ true → (P : Problem) → Lends P t → Ready t.connected P w ws
+        → Arrives t.connected P w.checkpoint.minimum (visits (search_of t.connected P) w.checkpoint.minimum budget (state_of P.old.order w.checkpoint)) w' ws'
     unfolding checkpoint_of
     ran_finished end P setting ready =
         let here = ran.arrives P setting ready in
-        let stays = visits_finished (search_of connected P) w.checkpoint.minimum (state_of P.old.order w.checkpoint)
+        let stays = visits_finished (search_of t.connected P) w.checkpoint.minimum (state_of P.old.order w.checkpoint)
         (w'.checkpoint.steps - w.checkpoint.steps) budget (ap (λ (c : Checkpoint). c.finished) (sym here.checkpoint_is) ∙ end)
         (omega (arith, ran.within, ran.forward)) in
         record { checkpoint_is = rw stays here.checkpoint_is; ready = here.ready }
 
     -- At the end all visits are made.
-    ran_all : w.checkpoint.steps + budget ≤ w'.checkpoint.steps → (P : Problem) → Setting P n edges masks → Ready connected P w ws
-        → Arrives connected P w.checkpoint.minimum (visits (search_of connected P) w.checkpoint.minimum budget (state_of P.old.order w.checkpoint)) w' ws'
+    ran_all : w.checkpoint.steps + budget ≤ w'.checkpoint.steps → (P : Problem) → Lends P t → Ready t.connected P w ws
+        → Arrives t.connected P w.checkpoint.minimum (visits (search_of t.connected P) w.checkpoint.minimum budget (state_of P.old.order w.checkpoint)) w' ws'
     ran_all h P setting ready =
         let all : w'.checkpoint.steps - w.checkpoint.steps ≡ budget = omega (arith, ran.within) in
         rw all at (ran.arrives P setting ready)
@@ -140,12 +140,12 @@ goes_on {w' = w'} {last} ends h = go w'.checkpoint.finished refl
     go false e = refl
 
 -- At the end, finished or not, all visits are made.
-pub ran_out : {connected : Bool} {budget n : ℕ} {edges masks first ws ws' : List ℕ} {w w' : Walk} {last : ℕ} → RanTo connected budget n edges masks first ws w ws' w'
-    → EndsAt budget w w' last → last ≤ w'.checkpoint.steps → (P : Problem) → Setting P n edges masks → Ready connected P w ws
-    → Arrives connected P w.checkpoint.minimum (visits (search_of connected P) w.checkpoint.minimum budget (state_of P.old.order w.checkpoint)) w' ws'
-ran_out {connected} {budget} {n} {edges} {masks} {first} {ws} {ws'} {w} {w'} ran ends h P setting ready = go w'.checkpoint.finished refl
+pub ran_out : {t : Tables} {budget : ℕ} {ws ws' : List ℕ} {w w' : Walk} {last : ℕ} → RanTo t budget ws w ws' w'
+    → EndsAt budget w w' last → last ≤ w'.checkpoint.steps → (P : Problem) → Lends P t → Ready t.connected P w ws
+    → Arrives t.connected P w.checkpoint.minimum (visits (search_of t.connected P) w.checkpoint.minimum budget (state_of P.old.order w.checkpoint)) w' ws'
+ran_out {t} {budget} {ws} {ws'} {w} {w'} ran ends h P setting ready = go w'.checkpoint.finished refl
   where
     go : (b : Bool) → w'.checkpoint.finished ≡ b
-        → Arrives connected P w.checkpoint.minimum (visits (search_of connected P) w.checkpoint.minimum budget (state_of P.old.order w.checkpoint)) w' ws'
+        → Arrives t.connected P w.checkpoint.minimum (visits (search_of t.connected P) w.checkpoint.minimum budget (state_of P.old.order w.checkpoint)) w' ws'
     go true e = ran_finished ran e P setting ready
     go false e = ran_all ran (omega (arith, (ends.busy e).0)) P setting ready

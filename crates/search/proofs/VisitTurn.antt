@@ -2,10 +2,11 @@
 -- visit.
 use mathlib.Core.Path.{◌≡◌, refl, sym, ap, ◌∙◌}
 use mathlib.Core.Bool.{Bool, true, false, cond, not, ◌||◌, true≢false}
-use mathlib.Core.Logic.{◌⊎◌, ⊎_elim}
+use mathlib.Core.Logic.{◌⊎◌, ◌≢◌, ⊎_elim}
 use mathlib.Core.List.{List, ◌∷◌}
 use mathlib.Core.Option.{Option, none, some}
 use Prim.Native.Nat.{ℕ, ◌+◌, ◌-◌, ◌^◌, ◌≤◌, ◌<◌}
+use native.Mathlib.Nat.{le_refl}
 use native.Mathlib.Omega.{arith}
 use lib.ListN.{length, get_or, take}
 use borrow.Author.Tests.{lt-ltb, le-ltb, le-leb, lt-leb}
@@ -18,15 +19,16 @@ use Rattle.search_tree.specs.Node.{upper_bound, children, later_siblings}
 use Rattle.search_tree.specs.Walk.{State, cutoff, go_on, visit, visit_path}
 use Rattle.search_tree.proofs.Shape.{visit_shape}
 use Rattle.checkpoint.specs.declared.Checkpoint.{Checkpoint}
+use Rattle.search.specs.declared.tables.Tables.{Tables}
 use Rattle.search.specs.declared.walk.Place.{Place}
 use Rattle.search.specs.declared.walk.Walk.{Walk}
 use Rattle.checkpoint.specs.Checkpoints.{checkpoint_of, state_of}
-use Rattle.search.specs.Words.{First, Words, open_rows}
+use Rattle.search.specs.Words.{Words, ExactSet, open_rows}
 use Rattle.search.specs.Walking.{Setting, AtNode, InBounds, Ready, Arrives, Bounded, RestZero, Descends, Retreats, Resumes}
 use Rattle.search.specs.Walking.{Trail, OpenIs, LastIs}
 use Rattle.checkpoint.proofs.CheckpointState.{checkpoint_tidy}
 use Rattle.search.proofs.ReadyWalk.{own_order, node_length}
-use Rattle.search.proofs.NodeWords.{node_bound}
+use Rattle.search.proofs.NodeWords.{pairs_max, node_bound}
 use Rattle.search.proofs.ReachedBounds.{reached_in_bounds}
 use Rattle.checkpoint.proofs.StateShape.{state_in_shape}
 use Rattle.checkpoint.proofs.StateShape.{checkpoint_in_shape}
@@ -34,9 +36,9 @@ use Rattle.checkpoint.proofs.StateShape.{checkpoint_in_shape}
 module _ {P : Problem} {n : ℕ} {edges masks path ws : List ℕ} {depth pairs : ℕ} (setting : Setting P n edges masks)
     (node : AtNode P path depth pairs ws) where
   -- A node of a problem is in bounds.
-  pub node_in_bounds : {first : List ℕ} → First edges first → InBounds edges masks first path depth pairs ws
-  node_in_bounds first_are =
-      rw node.pairs_are (reached_in_bounds path depth setting first_are node.reached node.depth_max node.path_length node.room)
+  pub node_in_bounds : InBounds path depth pairs ws
+  node_in_bounds =
+      rw node.pairs_are (reached_in_bounds path depth setting node.reached node.depth_max node.path_length node.room)
 
   -- A node stays one while the words of its ancestors do.
   pub node_kept : {ws' : List ℕ} → length ws' ≡ length ws → Words P path (depth - 1) ws' → AtNode P path depth pairs ws'
@@ -50,9 +52,9 @@ module _ {P : Problem} {n : ℕ} {edges masks path ws : List ℕ} {depth pairs :
   }
 
 -- A walk that is ready for a visit is in bounds.
-pub ready_in_bounds : {connected : Bool} {P : Problem} {n : ℕ} {edges masks first ws : List ℕ} {w : Walk} → Setting P n edges masks → First edges first
-    → Ready connected P w ws → InBounds edges masks first w.checkpoint.path w.checkpoint.depth w.pairs ws
-ready_in_bounds setting first_are ready = node_in_bounds setting ready.node first_are
+pub ready_in_bounds : {connected : Bool} {P : Problem} {n : ℕ} {edges masks ws : List ℕ} {w : Walk} → Setting P n edges masks
+    → Ready connected P w ws → InBounds w.checkpoint.path w.checkpoint.depth w.pairs ws
+ready_in_bounds setting ready = node_in_bounds setting ready.node
 
 -- a place as a state
 abbrev place_state : ℕ → Option (List ℕ) → Place → List ℕ → State
@@ -353,26 +355,47 @@ pub record Led (path' : List ℕ) (r : Place) (trail' ws : List ℕ) : Type 0 wh
   pub open_is : OpenIs r.depth r.pairs r.last r.later ws
   pub last_is : LastIs path' r.depth r.last
 
--- The bound of a node that reaches the cutoff, from the rows that are open.
-pub open_bound : {connected : Bool} {P : Problem} {n : ℕ} {edges masks ws : List ℕ} {w : Walk} → Setting P n edges masks → Ready connected P w ws → w.cutoff ≤ w.bound → w.pairs < 64
-    → w.bound ≡ w.pairs + open_rows w.checkpoint.depth w.pairs ws
-open_bound setting ready high few =
-    let known = ready.bounded.high high in
-    known.0 ∙ sym (node_bound setting ready.node few known.1)
+module _ {t : Tables} {ws : List ℕ} {w : Walk} (resumes : Resumes t w ws) where
+  -- A walk that can go on is in bounds.
+  pub resumes_in_bounds : InBounds w.checkpoint.path w.checkpoint.depth w.pairs ws
+  resumes_in_bounds = ready_in_bounds resumes.setting resumes.ready
+
+  module _ (high : w.cutoff ≤ w.bound) (goes_on : w.checkpoint.depth ≢ t.order) where
+    -- A node that is not last is below 64,
+    pub inner : w.checkpoint.depth < 64
+    inner = omega (arith, goes_on, resumes.ready.node.depth_max, resumes.setting.order_is, resumes.setting.sound.old_sound.order_max)
+
+    few : w.pairs < 64
+    few = omega (arith, inner, pairs_max resumes_in_bounds)
+
+    -- its bound counts the open rows,
+    pub open_bound : w.bound ≡ w.pairs + open_rows w.checkpoint.depth w.pairs ws
+    open_bound =
+        let known = resumes.ready.bounded.high high in
+        known.0 ∙ sym (node_bound resumes.setting resumes.ready.node few known.1)
+
+    -- and these have a candidate.
+    pub own_exact : ExactSet resumes.problem.old.order w.pairs ws
+    own_exact =
+        let ready = resumes.ready in
+        rw (← ready.node.pairs_are) at ((ready.bounded.high high).1.exact _ (le_refl _) (omega (arith, few, ready.node.pairs_are)))
+
+-- So few pairs has a node.
+pub pairs_small : {path ws : List ℕ} {depth pairs : ℕ} → InBounds path depth pairs ws → pairs ≤ 64
+pairs_small b = omega (arith, pairs_max b, b.depth_max)
 
 -- The place that the walk moves to is in bounds.
-pub moved_in_bounds : {connected : Bool} {n : ℕ} {edges masks first ws incumbent' path' : List ℕ} {w : Walk} {holds' : Bool} {cutoff' : ℕ} {r : Place}
-    → Resumes connected n edges masks first w ws → Moves connected n edges w ws holds' incumbent' cutoff' path' r
-    → InBounds edges masks first path' r.depth r.pairs ws
+pub moved_in_bounds : {t : Tables} {ws incumbent' path' : List ℕ} {w : Walk} {holds' : Bool} {cutoff' : ℕ} {r : Place}
+    → Resumes t w ws → Moves t.connected t.order t.edges.now w ws holds' incumbent' cutoff' path' r
+    → InBounds path' r.depth r.pairs ws
 moved_in_bounds resumes (left why back) =
-    node_in_bounds resumes.setting (back resumes.problem resumes.setting.sound resumes.ready.node).node resumes.first_are
+    node_in_bounds resumes.setting (back resumes.problem resumes.setting.sound resumes.ready.node).node
 moved_in_bounds resumes (held high last may back) =
-    node_in_bounds resumes.setting (back resumes.problem resumes.setting.sound resumes.ready.node).node resumes.first_are
+    node_in_bounds resumes.setting (back resumes.problem resumes.setting.sound resumes.ready.node).node
 moved_in_bounds {w = w} resumes (down high inner first) =
     let ready = resumes.ready in
     let below : w.checkpoint.depth < resumes.problem.old.order = omega (arith, inner, ready.node.depth_max, resumes.setting.order_is) in
     node_in_bounds resumes.setting (first resumes.problem resumes.setting.sound below ready.node (ready.bounded.high high).1).node
-    resumes.first_are
 
 -- Once the bound is made there, one visit is made.
 pub visits_moved : {connected : Bool} {n : ℕ} {edges masks ws ws' incumbent' path' : List ℕ} {holds' : Bool} {cutoff' bound' : ℕ} {r : Place} (w : Walk)

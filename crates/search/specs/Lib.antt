@@ -4,3 +4,4 @@ pub mod ThirdProperty
 pub mod Answers
 pub mod Words
 pub mod Walking
+pub mod Rows

@@ -9,11 +9,12 @@ use Rattle.search_tree.specs.Node.{upper_bound, extend, children, choices_after,
 use Rattle.search_tree.specs.Trees.{Reached}
 use Rattle.search_tree.specs.Walk.{State, cutoff}
 use Rattle.search_tree.specs.Ceiling.{top_bound}
+use Rattle.search.specs.declared.tables.Tables.{Tables}
 use Rattle.search.specs.declared.walk.Place.{Place}
 use Rattle.search.specs.declared.walk.Walk.{Walk}
 use Rattle.checkpoint.specs.declared.Checkpoint.{Checkpoint}
 use Rattle.checkpoint.specs.Checkpoints.{state_of, checkpoint_of, InShape}
-use Rattle.search.specs.Words.{Masks, First, Words, open_rows}
+use Rattle.search.specs.Words.{Masks, Words, open_rows}
 
 -- the problem whose old order, old edges and masks the code was lent
 pub record Setting (P : Problem) (n : ℕ) (edges masks : List ℕ) : Type 0 where
@@ -21,6 +22,14 @@ pub record Setting (P : Problem) (n : ℕ) (edges masks : List ℕ) : Type 0 whe
   pub order_is : P.old.order ≡ n
   pub edges_is : P.old.edges ≡ edges
   pub masks_are : Masks (graph P.new.order [] P.new.edges) masks
+
+-- the problem whose old order, old edges and masks the tables hold,
+abbrev pub Lends : Problem → Tables → Type 0
+Lends P t = Setting P t.order t.edges.now t.masks.now
+
+-- or whose old edges and masks they hold
+abbrev pub LendsEdges : Problem → Tables → Type 0
+LendsEdges P t = Setting P P.old.order t.edges.now t.masks.now
 
 -- a node of the tree, with its number of pairs, and the words of its ancestors
 pub record AtNode (P : Problem) (path : List ℕ) (depth pairs : ℕ) (workspace : List ℕ) : Type 0 where
@@ -39,10 +48,7 @@ pub record AtRow (P : Problem) (path : List ℕ) (row pairs : ℕ) (workspace : 
   pub words : Words P path row workspace
 
 -- what keeps the code's reads and writes in bounds, whatever the problem
-pub record InBounds (edges masks first path : List ℕ) (depth pairs : ℕ) (workspace : List ℕ) : Type 0 where
-  pub edges_length : length edges ≡ 4096
-  pub masks_length : length masks ≡ 16384
-  pub first_are : First edges first
+pub record InBounds (path : List ℕ) (depth pairs : ℕ) (workspace : List ℕ) : Type 0 where
   pub path_length : length path ≡ 64
   pub room : 4160 ≤ length workspace
   pub depth_max : depth ≤ 64
@@ -85,11 +91,6 @@ pub record Moved (path : List ℕ) (depth last : ℕ) (path' : List ℕ) : Type 
   pub entry : (i : ℕ) → i + 1 ≡ depth → i < 64 → get_or path' i 0 ≡ last
   pub rest : RestZero path' depth
 
--- the rows' numbers, from 1 on
-pub record Numbers (numbers : List ℕ) : Type 0 where
-  pub all : length numbers ≡ 64
-  pub number : (i : ℕ) → i < 64 → get_or numbers i 0 ≡ i + 1
-
 -- a pair in one number: how many later rows had a candidate before it was met, its row, and its value
 abbrev pub pair_number : ℕ → ℕ → ℕ → ℕ
 pair_number later row value = 4096 * later + 64 * row + value
@@ -111,11 +112,11 @@ abbrev pub LastIs : List ℕ → ℕ → ℕ → Type 0
 LastIs path depth last = (0 < depth → get_or path (depth - 1) 0 ≡ last) × (depth ≡ 0 → last ≡ unmapped)
 
 -- some path leads to the place
-pub record Placed (edges masks first : List ℕ) (depth pairs last later : ℕ) (workspace : List ℕ) : Type 0 where
+pub record Placed (p : Place) (workspace : List ℕ) : Type 0 where
   pub path : List ℕ
-  pub bounds : InBounds edges masks first path depth pairs workspace
-  pub last_is : LastIs path depth last
-  pub open_is : OpenIs depth pairs last later workspace
+  pub bounds : InBounds path p.depth p.pairs workspace
+  pub last_is : LastIs path p.depth p.last
+  pub open_is : OpenIs p.depth p.pairs p.last p.later workspace
 
 -- the place is the first child of the node
 pub record Descends (P : Problem) (path : List ℕ) (depth : ℕ) (workspace : List ℕ) (r : Place) (path' : List ℕ) : Type 0 where
@@ -138,11 +139,10 @@ abbrev pub CountFits : Checkpoint → ℕ → Type 0
 CountFits c budget = c.finished ≡ false → c.steps + budget < 2 ^ 64
 
 -- some problem's search can go on from here with what the code is lent
-pub record Resumes (connected : Bool) (n : ℕ) (edges masks first : List ℕ) (w : Walk) (workspace : List ℕ) : Type 0 where
+pub record Resumes (t : Tables) (w : Walk) (workspace : List ℕ) : Type 0 where
   pub problem : Problem
-  pub setting : Setting problem n edges masks
-  pub first_are : First edges first
-  pub ready : Ready connected problem w workspace
+  pub setting : Lends problem t
+  pub ready : Ready t.connected problem w workspace
 
 -- a walk at the checkpoint, ready for a visit
 pub record Starts (connected : Bool) (P : Problem) (c : Checkpoint) (w : Walk) (workspace : List ℕ) : Type 0 where

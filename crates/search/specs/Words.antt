@@ -81,14 +81,6 @@ pub record Counted (edges masks : List ℕ) (row pairs value need : ℕ) (worksp
   pub few : count < need → meet_rows edges masks row pairs value workspace < need
   pub whole : need ≤ count → (count ≡ meet_rows edges masks row pairs value workspace) × Refined edges masks row pairs value workspace workspace'
 
--- a set that holds at least the rows after `row` that have an edge to it
-abbrev pub Covers : List ℕ → ℕ → ℕ → Type 0
-Covers edges row set = (r : ℕ) → row < r → r < 64 → member set r ≡ false → get_or edges (place row r) 0 ≡ 0
-
--- one word for each row: the rows that are met first
-abbrev pub First : List ℕ → List ℕ → Type 0
-First edges first = (row : ℕ) → row < 64 → Covers edges row (get_or first row 0)
-
 -- how many rows of a set have no candidate, by their new words
 abbrev pub lost_rows : ℕ → (ℕ → ℕ) → ℕ
 lost_rows set word = count_below 64 (λ r. member set r && eqb (word r) 0)

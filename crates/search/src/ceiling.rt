@@ -6,9 +6,10 @@ ghost use Rattle.search_tree.specs.Rules.{rules_of};
 ghost use Rattle.search_tree.specs.Node.{later_siblings};
 ghost use Rattle.search_tree.specs.Ceiling.{top_bound, ceiling as ceiling_of};
 ghost use Rattle.checkpoint.specs.Checkpoints.{state_of};
-ghost use Rattle.search.specs.Walking.{Setting, AtNode, AtRow, InBounds, Ready, level_top};
-ghost use Rattle.search.specs.Words.{SameLevels, Covers};
+ghost use Rattle.search.specs.Walking.{LendsEdges, AtNode, AtRow, InBounds, Ready, level_top};
+ghost use Rattle.search.specs.Words.{SameLevels};
 
+use super::tables::Tables;
 use super::walk::Walk;
 use super::words;
 use graph::MAX_ORDER;
@@ -17,122 +18,83 @@ use mapping::{NewVertex, OldVertex, UNMAPPED};
 // One more than the greatest upper bound among the later siblings at `row`, which has taken `value` after `pairs` pairs. Their words are made in
 // the level after theirs, which is needed no more.
 pub fn row_top(
-    edges: &[u8],
-    masks: &[u64],
-    first: u64,
+    tables: Tables<'_>,
     workspace: &mut [u64],
     row: OldVertex,
     pairs: usize,
     value: NewVertex,
 ) -> usize
-    requires edges_len { (length edges.now ≡ 4096) × (length masks.now ≡ 16384) × (4160 ≤ length workspace.old) }
-    requires row_bound { (row.0 < 64) × (pairs ≤ row.0) × (value.0 < 64) × Covers edges.now row.0 first }
+    requires room { 4160 ≤ length workspace.old }
+    requires row_bound { (row.0 < 64) × (pairs ≤ row.0) × (value.0 < 64) }
     ensures kept { SameLevels pairs workspace.old workspace.new }
-    ensures top { (P : Problem) (path : List ℕ) → Setting P P.old.order edges.now masks.now
+    ensures top { (P : Problem) (path : List ℕ) → LendsEdges P tables.entry
         → AtRow P path row.0 pairs workspace.old → result ≡ level_top (rules_of P) (take row.0 path) value.0 }
 {
     let word = words::level_word(workspace, pairs, row);
     let open = words::count_open(workspace, row.0 + 1, pairs);
     let mut top = pairs + 1 + open;
     let mut last = value.0;
-    loop {
-        match bitset::least_above(word, last) {
-            Some(v) => {
-                let above = pairs
-                    + 2
-                    + words::refine(
-                        edges,
-                        masks,
-                        first,
-                        workspace,
-                        row,
-                        pairs,
-                        NewVertex(v),
-                        open,
-                        0,
-                    );
-                if top < above {
-                    top = above;
-                }
-                last = v;
-            }
-            None => {
-                return top;
-            }
-        }
+    while let Some(v) = bitset::least_above(word, last) {
+        let kept = words::refine(tables, workspace, row, pairs, NewVertex(v), open, 0);
+        top = top.max(pairs + 2 + kept);
+        last = v;
     }
+    top
 }
 
 // One more than the greatest upper bound among the later siblings of the node and of its ancestors. A level is passed over where its parent's
 // bound shows that it cannot raise the greatest so far.
 pub fn later_top(
-    edges: &[u8],
-    masks: &[u64],
-    first: &[u64; MAX_ORDER],
+    tables: Tables<'_>,
     path: &[u8; MAX_ORDER],
     workspace: &mut [u64],
     depth: usize,
     pairs: usize,
     least: usize,
 ) -> usize
-    requires { InBounds edges.now masks.now first.now path.now depth pairs workspace.old }
-    ensures { (P : Problem) → Setting P P.old.order edges.now masks.now
+    requires { InBounds path.now depth pairs workspace.old }
+    ensures { (P : Problem) → LendsEdges P tables.entry
         → AtNode P path.now depth pairs workspace.old
         → result ≡ max least (top_bound (rules_of P) (later_siblings (rules_of P) (take depth path.now) depth)) }
 {
     let mut top = least;
-    let mut k = depth;
     let mut left = pairs;
-    while 0 < k {
-        let row = k - 1;
+    for row in (0..depth).rev() {
         let last = path[row];
         if last != UNMAPPED {
             left -= 1;
             let limit = left + 1 + words::count_open(workspace, row, left);
             if top < limit {
                 let above = row_top(
-                    edges,
-                    masks,
-                    first[row],
+                    tables,
                     workspace,
                     OldVertex(row),
                     left,
                     NewVertex(last as usize),
                 );
-                if top < above {
-                    top = above;
-                }
+                top = top.max(above);
             }
         }
-        k = row;
     }
     top
 }
 
 // The ceiling of the walk where it stands.
-pub fn ceiling(
-    walk: Walk,
-    edges: &[u8],
-    masks: &[u64],
-    first: &[u64; MAX_ORDER],
-    workspace: &mut [u64],
-) -> usize
-    requires in_bounds { InBounds edges.now masks.now first.now walk.checkpoint.path walk.checkpoint.depth walk.pairs workspace.old }
+pub fn ceiling(walk: Walk, tables: Tables<'_>, workspace: &mut [u64]) -> usize
+    requires in_bounds { InBounds walk.checkpoint.path walk.checkpoint.depth walk.pairs workspace.old }
     requires bound_bound { walk.bound < 2 ^ 64 - 1 }
-    ensures { (connected : Bool) (P : Problem) → Setting P P.old.order edges.now masks.now → Ready connected P walk workspace.old
+    ensures { (connected : Bool) (P : Problem) → LendsEdges P tables.entry → Ready connected P walk workspace.old
         → result ≡ ceiling_of (rules_of P) walk.checkpoint.minimum (state_of P.old.order walk.checkpoint) }
 {
-    let mut top = walk.cutoff;
-    let finished = walk.checkpoint.finished;
-    if finished {
-        return top;
-    }
-    let depth = walk.checkpoint.depth;
-    let path = walk.checkpoint.path;
-    if top <= walk.bound {
-        top = walk.bound + 1;
+    if walk.checkpoint.finished {
+        return walk.cutoff;
     }
     later_top(
-        edges, masks, first, &path, workspace, depth, walk.pairs, top,
+        tables,
+        &walk.checkpoint.path,
+        workspace,
+        walk.checkpoint.depth,
+        walk.pairs,
+        walk.cutoff.max(walk.bound + 1),
     )
 }

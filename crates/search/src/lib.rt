@@ -3,6 +3,7 @@
 #![tactic(auto)]
 
 mod ceiling;
+mod tables;
 mod walk;
 mod words;
 
@@ -17,6 +18,7 @@ use answers::Refusal;
 use checkpoint::{Checkpoint, ShapeError};
 use graph::MAX_ORDER;
 use problem::Problem;
+use tables::Tables;
 
 // How many words of 64 bits a call needs.
 pub const WORDS: usize = 4160;
@@ -72,31 +74,27 @@ fn advance<'a>(
     requires workspace_len { (length workspace.old ≡ 4160) × T (count_fits checkpoint budget) }
     ensures { called_of result workspace.new ≡ advanced connected (lent problem.entry) checkpoint budget workspace.old }
 {
-    let old_order = problem.old.order;
-    let old_edges = problem.old.edges;
+    let old = problem.old;
     let mut masks = [0u64; words::MASKS];
     words::fill_masks(problem.new.order, problem.new.edges, &mut masks);
     let allowed = problem.allowed_sets();
-    words::root_words(old_order, &allowed, workspace);
-    let first = words::all_first(old_order, old_edges);
-    let neighbours = walk::neighbours_for(connected, old_edges);
-    let mut trail = [0usize; MAX_ORDER];
-    let start = walk::start(
-        checkpoint, old_order, old_edges, &masks, &first, &mut trail, workspace,
-    );
-    let end = walk::run(
-        start,
+    words::root_words(old.order, &allowed, workspace);
+    let first = words::all_first(old.order, old.edges);
+    let neighbours = walk::neighbours_for(connected, old.edges);
+    let numbers = walk::row_numbers();
+    let tables = Tables {
         connected,
-        budget,
-        old_order,
-        old_edges,
-        &masks,
-        &first,
-        &neighbours,
-        &mut trail,
-        workspace,
-    );
-    let top = ceiling::ceiling(end, old_edges, &masks, &first, workspace);
+        order: old.order,
+        edges: old.edges,
+        masks: &masks,
+        first: &first,
+        neighbours: &neighbours,
+        numbers: &numbers,
+    };
+    let mut trail = [0usize; MAX_ORDER];
+    let start = walk::start(checkpoint, tables, &mut trail, workspace);
+    let end = walk::run(start, tables, budget, &mut trail, workspace);
+    let top = ceiling::ceiling(end, tables, workspace);
     words::clear_words(workspace);
     let left = end.checkpoint;
     Searched {

@@ -10,11 +10,13 @@ ghost use Rattle.search_tree.specs.Search.{search_of};
 ghost use Rattle.search_tree.specs.Trees.{Reached};
 ghost use Rattle.search_tree.specs.Walk.{visit};
 ghost use Rattle.checkpoint.specs.Checkpoints.{state_of, InShape};
+ghost use Rattle.search.specs.Rows.{Numbers};
 ghost use Rattle.search.specs.Words.{Words, ExactSet, open_set, open_rows};
-ghost use Rattle.search.specs.Walking.{Setting, AtNode, InBounds, Ready, Arrives, Bounded, Descends, Retreats, CountFits, Resumes, Starts};
-ghost use Rattle.search.specs.Walking.{RestZero, Moved, Numbers, Trail, OpenIs, LastIs, Placed};
+ghost use Rattle.search.specs.Walking.{Lends, LendsEdges, AtNode, InBounds, Ready, Arrives, Bounded, Descends, Retreats, CountFits, Resumes, Starts};
+ghost use Rattle.search.specs.Walking.{RestZero, Moved, Trail, OpenIs, LastIs, Placed};
 ghost use Rattle.search.specs.Call.{visits};
 
+use super::tables::Tables;
 use super::words;
 use checkpoint::Checkpoint;
 use graph::MAX_ORDER;
@@ -46,42 +48,26 @@ pub struct Walk {
 }
 
 // The upper bound of the node at a place, and its own words in the workspace; or, where the bound is below the cutoff, some number below it.
-pub fn upper_bound(
-    edges: &[u8],
-    masks: &[u64],
-    first: &[u64; MAX_ORDER],
-    workspace: &mut [u64],
-    depth: usize,
-    pairs: usize,
-    last: u8,
-    later: usize,
-    cutoff: usize,
-) -> usize
-    requires { Placed edges.now masks.now first.now depth pairs last later workspace.old }
-    ensures bounded { (P : Problem) (path : List ℕ) → Setting P P.old.order edges.now masks.now
-        → AtNode P path depth pairs workspace.old → LastIs path depth last → Bounded P path depth cutoff workspace.new result }
+pub fn upper_bound(tables: Tables<'_>, workspace: &mut [u64], place: Place, cutoff: usize) -> usize
+    requires { Placed place workspace.old }
+    ensures bounded { (P : Problem) (path : List ℕ) → LendsEdges P tables.entry
+        → AtNode P path place.depth place.pairs workspace.old → LastIs path place.depth place.last
+        → Bounded P path place.depth cutoff workspace.new result }
     ensures small { result < 2 ^ 64 - 1 }
-    ensures kept { (p : ℕ) → p < pairs → open_set p workspace.new ≡ open_set p workspace.old }
+    ensures kept { (p : ℕ) → p < place.pairs → open_set p workspace.new ≡ open_set p workspace.old }
 {
-    if last == UNMAPPED {
-        return pairs + later;
+    if place.last == UNMAPPED {
+        return place.pairs + place.later;
     }
-    let row = depth - 1;
-    let mut need = 0;
-    if pairs < cutoff {
-        need = cutoff - pairs;
-    }
-    pairs
+    place.pairs
         + words::refine(
-            edges,
-            masks,
-            first[row],
+            tables,
             workspace,
-            OldVertex(row),
-            pairs - 1,
-            NewVertex(last as usize),
-            later,
-            need,
+            OldVertex(place.depth - 1),
+            place.pairs - 1,
+            NewVertex(place.last as usize),
+            place.later,
+            cutoff.saturating_sub(place.pairs),
         )
 }
 
@@ -90,8 +76,8 @@ pub fn row_numbers() -> [u8; MAX_ORDER]
     ensures { Numbers result }
 {
     let mut numbers = [0u8; MAX_ORDER];
-    for i in 0..MAX_ORDER {
-        numbers[i] = ((i + 1) % 256) as u8;
+    for (row, number) in numbers.iter_mut().enumerate() {
+        *number = (row + 1) as u8;
     }
     numbers
 }
@@ -135,6 +121,7 @@ pub fn move_down(numbers: &[u8; MAX_ORDER], path: &mut [u8; MAX_ORDER], depth: u
 }
 
 // The first child: the row at `depth`, from which on `rows` rows have a candidate, takes its least candidate, or is left out.
+#[tactic(auto, using(crate::proofs::MeetTurn::row_inside, crate::proofs::NodeWords::open_rows_max))]
 pub fn descend(
     numbers: &[u8; MAX_ORDER],
     path: &mut [u8; MAX_ORDER],
@@ -160,8 +147,8 @@ pub fn descend(
         Some(v) => {
             let later = rows - 1;
             trail[pairs] = LATER * later + MAX_ORDER * depth + v;
-            let value = (v % 256) as u8;
-            move_down(numbers, path, ((depth + 1) % 256) as u8, value);
+            let value = v as u8;
+            move_down(numbers, path, (depth + 1) as u8, value);
             Place {
                 depth: depth + 1,
                 pairs: pairs + 1,
@@ -171,7 +158,7 @@ pub fn descend(
             }
         }
         None => {
-            move_down(numbers, path, ((depth + 1) % 256) as u8, UNMAPPED);
+            move_down(numbers, path, (depth + 1) as u8, UNMAPPED);
             Place {
                 depth: depth + 1,
                 pairs,
@@ -185,6 +172,7 @@ pub fn descend(
 
 // The nearest later sibling of the node or of an ancestor: the last pair takes its next candidate, or is left out. The rows after it, which were
 // left out, have no later sibling.
+#[tactic(auto, using(crate::proofs::MeetTurn::row_above_inside))]
 pub fn retreat(
     numbers: &[u8; MAX_ORDER],
     path: &mut [u8; MAX_ORDER],
@@ -222,8 +210,8 @@ pub fn retreat(
     ) {
         Some(v) => {
             trail[before] = LATER * later + MAX_ORDER * row + v;
-            let value = (v % 256) as u8;
-            move_back(numbers, path, ((row + 1) % 256) as u8, value);
+            let value = v as u8;
+            move_back(numbers, path, (row + 1) as u8, value);
             Place {
                 depth: row + 1,
                 pairs,
@@ -233,7 +221,7 @@ pub fn retreat(
             }
         }
         None => {
-            move_back(numbers, path, ((row + 1) % 256) as u8, UNMAPPED);
+            move_back(numbers, path, (row + 1) as u8, UNMAPPED);
             Place {
                 depth: row + 1,
                 pairs: before,
@@ -262,53 +250,36 @@ pub fn trail_rows(trail: &[usize; MAX_ORDER], pairs: usize) -> u64
         → Trail path depth trail.now workspace → result ≡ mapped_set (take depth path) }
 {
     let mut set = 0;
-    let mut left = pairs;
-    while 0 < left {
-        left -= 1;
-        set = bitset::with(set, trail[left] / MAX_ORDER % MAX_ORDER);
+    for before in (0..pairs).rev() {
+        set = bitset::with(set, trail[before] / MAX_ORDER % MAX_ORDER);
     }
     set
 }
 
 // Whether a last node may be held: in the first search always, in the connected one where the rows of its pairs hang together.
-pub fn admitted(
-    connected: bool,
-    neighbours: &[u64; MAX_ORDER],
-    trail: &[usize; MAX_ORDER],
-    pairs: usize,
-) -> bool
+pub fn admitted(tables: Tables<'_>, trail: &[usize; MAX_ORDER], pairs: usize) -> bool
     requires { (length trail.now ≡ 64) × (pairs ≤ 64) }
     ensures { (path : List ℕ) (depth : ℕ) (workspace : List ℕ) → length path ≡ 64 → depth ≤ 64 → pairs ≡ size (take depth path)
         → Trail path depth trail.now workspace
-        → result ≡ (not connected || connected_set (λ v. get_or neighbours.now v 0) (mapped_set (take depth path))) }
+        → result ≡ (not tables.entry.connected || connected_set (λ v. get_or tables.entry.neighbours.now v 0) (mapped_set (take depth path))) }
 {
-    if !connected {
-        return true;
-    }
-    connected::is_connected_set(neighbours, trail_rows(trail, pairs))
+    !tables.connected || connected::is_connected_set(tables.neighbours, trail_rows(trail, pairs))
 }
 
 impl Walk {
     // One visit turns a checkpoint into the next, and leaves the words of the next node's ancestors.
     pub fn visit(
         self,
-        connected: bool,
-        order: usize,
-        edges: &[u8],
-        masks: &[u64],
-        first: &[u64; MAX_ORDER],
-        numbers: &[u8; MAX_ORDER],
-        neighbours: &[u64; MAX_ORDER],
+        tables: Tables<'_>,
         trail: &mut [usize; MAX_ORDER],
         workspace: &mut [u64],
     ) -> Walk
-        requires resumes { Resumes connected order edges.now masks.now first.now self workspace.old }
-        requires finished_value { (self.checkpoint.finished ≡ false) × (self.checkpoint.steps + 1 < 2 ^ 64) × Numbers numbers.now
-            × Trail self.checkpoint.path self.checkpoint.depth trail.old workspace.old
-            × (connected ≡ true → Neighbours edges.now neighbours.now) }
-        ensures visited { (P : Problem) → Setting P order edges.now masks.now → Ready connected P self workspace.old
-            → Arrives connected P self.checkpoint.minimum
-            (visit (search_of connected P) self.checkpoint.minimum (state_of P.old.order self.checkpoint)) result workspace.new }
+        requires resumes { Resumes tables self workspace.old }
+        requires goes_on { (self.checkpoint.finished ≡ false) × (self.checkpoint.steps + 1 < 2 ^ 64)
+            × Trail self.checkpoint.path self.checkpoint.depth trail.old workspace.old }
+        ensures visited { (P : Problem) → Lends P tables.entry → Ready tables.entry.connected P self workspace.old
+            → Arrives tables.entry.connected P self.checkpoint.minimum
+            (visit (search_of tables.entry.connected P) self.checkpoint.minimum (state_of P.old.order self.checkpoint)) result workspace.new }
         ensures trail { Trail result.checkpoint.path result.checkpoint.depth trail.new workspace.new }
     {
         let minimum = self.checkpoint.minimum;
@@ -319,25 +290,20 @@ impl Walk {
         let mut incumbent = self.checkpoint.incumbent;
         let mut cutoff = self.cutoff;
         let mut path = self.checkpoint.path;
-        let mut place = Place {
-            depth,
-            pairs,
-            finished: false,
-            last: 0,
-            later: 0,
-        };
+        // as the value of the `if` the place would go through memory, for 16 instructions a visit
+        let place;
         if self.bound < cutoff {
-            place = retreat(numbers, &mut path, trail, workspace, pairs);
-        } else if depth == order {
-            if admitted(connected, neighbours, trail, pairs) {
+            place = retreat(tables.numbers, &mut path, trail, workspace, pairs);
+        } else if depth == tables.order {
+            if admitted(tables, trail, pairs) {
                 holds = true;
                 incumbent = path;
                 cutoff = pairs + 1;
             }
-            place = retreat(numbers, &mut path, trail, workspace, pairs);
+            place = retreat(tables.numbers, &mut path, trail, workspace, pairs);
         } else {
             place = descend(
-                numbers,
+                tables.numbers,
                 &mut path,
                 trail,
                 workspace,
@@ -346,17 +312,7 @@ impl Walk {
                 self.bound - pairs,
             );
         }
-        let bound = upper_bound(
-            edges,
-            masks,
-            first,
-            workspace,
-            place.depth,
-            place.pairs,
-            place.last,
-            place.later,
-            cutoff,
-        );
+        let bound = upper_bound(tables, workspace, place, cutoff);
         Walk {
             checkpoint: Checkpoint {
                 minimum,
@@ -377,35 +333,30 @@ impl Walk {
 // A walk at a checkpoint, from the words of the root: those of its path are rebuilt, and its pairs, cutoff and bound are counted.
 pub fn start(
     checkpoint: Checkpoint,
-    order: usize,
-    edges: &[u8],
-    masks: &[u64],
-    first: &[u64; MAX_ORDER],
+    tables: Tables<'_>,
     trail: &mut [usize; MAX_ORDER],
     workspace: &mut [u64],
 ) -> Walk
-    requires in_bounds { InBounds edges.now masks.now first.now checkpoint.path checkpoint.depth
-        (size (take checkpoint.depth checkpoint.path)) workspace.old }
-    requires incumbent_len { (length checkpoint.incumbent ≡ 64) × (order ≤ 64) × (length trail.old ≡ 64) }
-    ensures starts { (connected : Bool) (P : Problem) → Setting P order edges.now masks.now → InShape connected P checkpoint
+    requires in_bounds { InBounds checkpoint.path checkpoint.depth (size (take checkpoint.depth checkpoint.path)) workspace.old }
+    requires lengths { (length checkpoint.incumbent ≡ 64) × (length trail.old ≡ 64) }
+    ensures starts { (connected : Bool) (P : Problem) → Lends P tables.entry → InShape connected P checkpoint
         → Words P checkpoint.path 0 workspace.old → Starts connected P checkpoint result workspace.new }
     ensures trail { Trail checkpoint.path checkpoint.depth trail.new workspace.new }
 {
     let depth = checkpoint.depth;
-    let holds = checkpoint.holds;
-    let path = checkpoint.path;
-    let incumbent = checkpoint.incumbent;
-    let mut cutoff = checkpoint.minimum as usize;
-    if holds {
-        cutoff = mapping::mapping_size(&incumbent[..order]) + 1;
-    }
-    let pairs = mapping::mapping_size(&path[..depth]);
-    rebuild(edges, masks, first, &path, trail, workspace, depth);
+    let cutoff = if checkpoint.holds {
+        mapping::mapping_size(&checkpoint.incumbent[..tables.order]) + 1
+    } else {
+        checkpoint.minimum as usize
+    };
+    let pairs = mapping::mapping_size(&checkpoint.path[..depth]);
+    rebuild(tables, &checkpoint.path, trail, workspace, depth);
     // with 64 pairs no row is undecided
-    let mut bound = pairs;
-    if pairs < MAX_ORDER {
-        bound = pairs + words::count_open(workspace, depth, pairs);
-    }
+    let bound = if pairs < MAX_ORDER {
+        pairs + words::count_open(workspace, depth, pairs)
+    } else {
+        pairs
+    };
     Walk {
         checkpoint,
         pairs,
@@ -418,36 +369,26 @@ pub fn start(
 // memory.
 pub fn run(
     walk: Walk,
-    connected: bool,
+    tables: Tables<'_>,
     budget: u64,
-    order: usize,
-    edges: &[u8],
-    masks: &[u64],
-    first: &[u64; MAX_ORDER],
-    neighbours: &[u64; MAX_ORDER],
     trail: &mut [usize; MAX_ORDER],
     workspace: &mut [u64],
 ) -> Walk
-    requires { CountFits walk.checkpoint budget × Resumes connected order edges.now masks.now first.now walk workspace.old
-        × Trail walk.checkpoint.path walk.checkpoint.depth trail.old workspace.old
-        × (connected ≡ true → Neighbours edges.now neighbours.now) }
-    ensures { (P : Problem) → Setting P order edges.now masks.now → Ready connected P walk workspace.old
-        → Arrives connected P walk.checkpoint.minimum
-        (visits (search_of connected P) walk.checkpoint.minimum budget (state_of P.old.order walk.checkpoint)) result workspace.new }
+    requires { CountFits walk.checkpoint budget × Resumes tables walk workspace.old
+        × Trail walk.checkpoint.path walk.checkpoint.depth trail.old workspace.old }
+    ensures { (P : Problem) → Lends P tables.entry → Ready tables.entry.connected P walk workspace.old
+        → Arrives tables.entry.connected P walk.checkpoint.minimum
+        (visits (search_of tables.entry.connected P) walk.checkpoint.minimum budget (state_of P.old.order walk.checkpoint)) result workspace.new }
 {
     let mut at = walk;
-    let mut last = walk.checkpoint.steps;
-    let finished = walk.checkpoint.finished;
-    if !finished {
-        last = walk.checkpoint.steps + budget;
-    }
-    let numbers = row_numbers();
+    let mut last = if walk.checkpoint.finished {
+        walk.checkpoint.steps
+    } else {
+        walk.checkpoint.steps + budget
+    };
     while at.checkpoint.steps < last {
-        at = at.visit(
-            connected, order, edges, masks, first, &numbers, neighbours, trail, workspace,
-        );
-        let finished = at.checkpoint.finished;
-        if finished {
+        at = at.visit(tables, trail, workspace);
+        if at.checkpoint.finished {
             last = at.checkpoint.steps;
         }
     }
@@ -456,17 +397,15 @@ pub fn run(
 
 // The words of the path, from those of the root, and its trail.
 pub fn rebuild(
-    edges: &[u8],
-    masks: &[u64],
-    first: &[u64; MAX_ORDER],
+    tables: Tables<'_>,
     path: &[u8; MAX_ORDER],
     trail: &mut [usize; MAX_ORDER],
     workspace: &mut [u64],
     depth: usize,
 )
-    requires in_bounds { InBounds edges.now masks.now first.now path.now depth (size (take depth path.now)) workspace.old }
+    requires in_bounds { InBounds path.now depth (size (take depth path.now)) workspace.old }
     requires trail_len { length trail.old ≡ 64 }
-    ensures words { (P : Problem) → Setting P P.old.order edges.now masks.now → depth ≤ P.old.order
+    ensures words { (P : Problem) → LendsEdges P tables.entry → depth ≤ P.old.order
         → Reached (rules_of P) (take depth path.now) → Words P path.now 0 workspace.old
         → Words P path.now depth workspace.new }
     ensures trail { Trail path.now depth trail.new workspace.new }
@@ -478,9 +417,7 @@ pub fn rebuild(
             let later = words::count_open(workspace, row + 1, pairs);
             trail[pairs] = LATER * later + MAX_ORDER * row + value as usize;
             words::refine(
-                edges,
-                masks,
-                first[row],
+                tables,
                 workspace,
                 OldVertex(row),
                 pairs,

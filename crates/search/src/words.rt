@@ -6,9 +6,11 @@ ghost use Rattle.problem.specs.Problem.{Problem};
 ghost use Rattle.problem.specs.VertexSets.{AllowedSets};
 ghost use Rattle.bitset.specs.Count.{size};
 ghost use Rattle.search.specs.Words.{Masks, MaskRow, RootWords, level_word, Counted, open_rows};
-ghost use Rattle.search.specs.Words.{Covers, First, Met, near_word, far_word};
+ghost use Rattle.search.specs.Rows.{Covers, First};
+ghost use Rattle.search.specs.Words.{Met, near_word, far_word};
 
 use super::WORDS;
+use super::tables::Tables;
 use graph::MAX_ORDER;
 use mapping::{NewVertex, OldVertex};
 
@@ -80,12 +82,7 @@ pub fn level_word(workspace: &[u64], pairs: usize, row: OldVertex) -> u64
 pub fn many_edges(order: usize, edges: &[u8]) -> bool
     requires { (length edges.now ≡ 4096) × (order ≤ 64) }
 {
-    let mut count = 0;
-    for i in 0..edges.len() {
-        if edges[i] != 0 {
-            count += 1;
-        }
-    }
+    let count = edges.iter().filter(|edge| **edge != 0).count();
     order * order < 6 * count
 }
 
@@ -97,9 +94,7 @@ pub fn first_rows(many: bool, edges: &[u8], row: OldVertex) -> u64
     let from = row.0;
     let mut word = 0;
     for r in from + 1..MAX_ORDER {
-        if many {
-            word = bitset::with(word, r);
-        } else if edges[MAX_ORDER * from + r] != 0 {
+        if many || edges[MAX_ORDER * from + r] != 0 {
             word = bitset::with(word, r);
         }
     }
@@ -113,8 +108,8 @@ pub fn all_first(order: usize, edges: &[u8]) -> [u64; MAX_ORDER]
 {
     let many = many_edges(order, edges);
     let mut first = [0u64; MAX_ORDER];
-    for row in 0..MAX_ORDER {
-        first[row] = first_rows(many, edges, OldVertex(row));
+    for (row, rows) in first.iter_mut().enumerate() {
+        *rows = first_rows(many, edges, OldVertex(row));
     }
     first
 }
@@ -128,9 +123,9 @@ pub struct Kept {
 
 // Of the rows `near` each word meets the mask of its edge to `row`, which took `value` after `pairs` pairs. No turn asks whether enough rows are
 // left: a way out of the midst would be hard to foresee.
+#[tactic(auto, using(crate::proofs::MeetTurn::row_inside, crate::proofs::MeetTurn::rest_falls, crate::proofs::MeetTurn::some_left))]
 pub fn meet_near(
-    edges: &[u8],
-    masks: &[u64],
+    tables: Tables<'_>,
     workspace: &mut [u64],
     row: OldVertex,
     pairs: usize,
@@ -138,38 +133,33 @@ pub fn meet_near(
     near: u64,
     kept: Kept,
 ) -> Kept
-    requires edges_len { (length edges.now ≡ 4096) × (length masks.now ≡ 16384) × (4160 ≤ length workspace.old) }
+    requires room { 4160 ≤ length workspace.old }
     requires row_bound { (row.0 < 64) × (pairs < 63) × (value.0 < 64) × (size near ≤ kept.count) }
-    ensures { Met near (near_word edges.now masks.now row.0 pairs value.0 workspace.old)
+    ensures { Met near (near_word tables.entry.edges.now tables.entry.masks.now row.0 pairs value.0 workspace.old)
         (pairs + 1) 0 workspace.old kept workspace.new result }
 {
     let from = row.0;
     let mut rest = near;
     let mut rows = kept.rows;
     let mut left = kept.count;
-    loop {
-        match bitset::least_member(rest) {
-            Some(r) => {
-                let label = edges[MAX_ORDER * from + r] as usize;
-                let at = MAX_ORDER * pairs + r;
-                let word = bitset::meet(workspace[at], masks[EDGE_LABELS * value.0 + label]);
-                // an empty word is stored too: a jump over the store would be hard to foresee
-                workspace[at + MAX_ORDER] = word;
-                rest = bitset::without_least(rest);
-                if bitset::is_empty(word) {
-                    left -= 1;
-                } else {
-                    rows = bitset::with(rows, r);
-                }
-            }
-            None => {
-                return Kept { rows, count: left };
-            }
+    while let Some(r) = bitset::least_member(rest) {
+        let label = tables.edges[MAX_ORDER * from + r] as usize;
+        let at = MAX_ORDER * pairs + r;
+        let word = bitset::meet(workspace[at], tables.masks[EDGE_LABELS * value.0 + label]);
+        // an empty word is stored too: a jump over the store would be hard to foresee
+        workspace[at + MAX_ORDER] = word;
+        rest = bitset::without_least(rest);
+        if bitset::is_empty(word) {
+            left -= 1;
+        } else {
+            rows = bitset::with(rows, r);
         }
     }
+    Kept { rows, count: left }
 }
 
 // Of the rows `far`, without an edge to the row just mapped, each word meets the one mask of null edges.
+#[tactic(auto, using(crate::proofs::MeetTurn::row_inside, crate::proofs::MeetTurn::rest_falls, crate::proofs::MeetTurn::some_left))]
 pub fn meet_far(
     mask: u64,
     workspace: &mut [u64],
@@ -184,36 +174,28 @@ pub fn meet_far(
     let mut rest = far;
     let mut rows = kept.rows;
     let mut left = kept.count;
-    loop {
-        match bitset::least_member(rest) {
-            Some(r) => {
-                let at = MAX_ORDER * pairs + r;
-                let word = bitset::meet(workspace[at], mask);
-                if bitset::is_empty(word) {
-                    left -= 1;
-                    if left < need {
-                        return Kept { rows, count: left };
-                    }
-                } else {
-                    rows = bitset::with(rows, r);
-                    workspace[at + MAX_ORDER] = word;
-                }
-                rest = bitset::without_least(rest);
-            }
-            None => {
+    while let Some(r) = bitset::least_member(rest) {
+        let at = MAX_ORDER * pairs + r;
+        let word = bitset::meet(workspace[at], mask);
+        if bitset::is_empty(word) {
+            left -= 1;
+            if left < need {
                 return Kept { rows, count: left };
             }
+        } else {
+            rows = bitset::with(rows, r);
+            workspace[at + MAX_ORDER] = word;
         }
+        rest = bitset::without_least(rest);
     }
+    Kept { rows, count: left }
 }
 
 // The words after `row`, with `pairs` pairs before it, took `value`: the word of each later row that has one meets the mask of its edge to
-// `row`, those in `first` before the others, which have no edge to it. `count` later rows have a word. Returns how many of them keep one, or, once
+// `row`, those that are met first before the others, which have no edge to it. `count` later rows have a word. Returns how many of them keep one, or, once
 // fewer than `need` can, a number below `need`. After 64 pairs there is no later row.
 pub fn refine(
-    edges: &[u8],
-    masks: &[u64],
-    first: u64,
+    tables: Tables<'_>,
     workspace: &mut [u64],
     row: OldVertex,
     pairs: usize,
@@ -221,22 +203,21 @@ pub fn refine(
     count: usize,
     need: usize,
 ) -> usize
-    requires edges_len { (length edges.now ≡ 4096) × (length masks.now ≡ 16384) × (4160 ≤ length workspace.old) }
-    requires row_bound { (row.0 < 64) × (pairs ≤ row.0) × (value.0 < 64) × Covers edges.now row.0 first
-        × (count ≡ open_rows (row.0 + 1) pairs workspace.old) }
-    ensures { Counted edges.now masks.now row.0 pairs value.0 need workspace.old workspace.new result }
+    requires room { 4160 ≤ length workspace.old }
+    requires row_bound { (row.0 < 64) × (pairs ≤ row.0) × (value.0 < 64) × (count ≡ open_rows (row.0 + 1) pairs workspace.old) }
+    ensures { Counted tables.entry.edges.now tables.entry.masks.now row.0 pairs value.0 need workspace.old workspace.new result }
 {
     if pairs == 63 {
         return 0;
     }
     let open = bitset::members_from(workspace[OPEN_SETS + pairs], row.0 + 1);
-    let near = bitset::meet(open, first);
+    let near = bitset::meet(open, tables.first[row.0]);
     let all = Kept { rows: 0, count };
-    let met = meet_near(edges, masks, workspace, row, pairs, value, near, all);
+    let met = meet_near(tables, workspace, row, pairs, value, near, all);
     if met.count < need {
         return met.count;
     }
-    let mask = masks[EDGE_LABELS * value.0];
+    let mask = tables.masks[EDGE_LABELS * value.0];
     let kept = meet_far(
         mask,
         workspace,
@@ -265,7 +246,5 @@ pub fn clear_words(workspace: &mut [u64])
     requires { 4160 ≤ length workspace.old }
     ensures { workspace.new ≡ replicate 4160 0 ++ drop 4160 workspace.old }
 {
-    for i in 0..WORDS {
-        workspace[i] = 0;
-    }
+    workspace[..WORDS].fill(0);
 }

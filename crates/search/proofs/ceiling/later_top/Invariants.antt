@@ -4,9 +4,6 @@
 use Rattle.search.proofs.LaterTop.{LevelsHead}
 use Rattle.search.proofs.ceiling.later_top.Given as goal
 
-abbrev pub invariant-loop-k : goal.invariant-loop-k
-invariant-loop-k l =
-    LevelsHead l.edges l.masks l.path l.initial.workspace l.workspace l.depth l.pairs l.least l.k l.left l.top
-
-abbrev pub decreases-loop-k : goal.decreases-loop-k
-decreases-loop-k l = l.k
+abbrev pub invariant-loop-row : goal.invariant-loop-row
+invariant-loop-row l =
+    LevelsHead l.tables.edges.now l.tables.masks.now l.path l.initial.workspace l.workspace l.depth l.pairs l.least l.row l.left l.top

@@ -10,7 +10,7 @@ use Rattle.search.proofs.Levels.{same_none, same_more, open_rows_same, meet_rows
 use Rattle.search.proofs.NodeWords.{open_rows_max, meet_rows_max}
 use Rattle.search.proofs.RowTop.{row_first, row_more, row_all}
 use Rattle.search.proofs.ceiling.row_top.Goals as goal
-use Rattle.search.proofs.ceiling.row_top.Goals.{After-refine, In-Some}
+use Rattle.search.proofs.ceiling.row_top.Goals.{After-refine-kept, In-Some}
 
 pub overflow_add-top-2 : goal.overflow_add-top-2
 overflow_add-top-2 c =
@@ -23,56 +23,35 @@ loop-v-init c =
     (rw c.count_open-open.ensures (row_first c.args.value.0 c.requires.row_bound.2), same_none _ _)
 
 -- the member that was found
-member : (c : In-Some)
-    → least_above (level_word c.args.workspace.now c.args.pairs c.args.row.0) c.loop-v.last ≡ Some c.in-Some.v
+member : (c : In-Some) → least_above (level_word c.args.workspace.now c.args.pairs c.args.row.0) c.loop-v.last ≡ Some c.in-Some.v
 member c =
-    ap (λ (w : ℕ). least_above w c.loop-v.last) (sym c.level_word-word.ensures)
-    ∙ sym c.least_above.ensures
-    ∙ c.in-Some.is
+    ap (λ (w : ℕ). least_above w c.loop-v.last) (sym c.level_word-word.ensures) ∙ sym c.least_above.ensures ∙ c.in-Some.is
 
-pub overflow_add-above : goal.overflow_add-above
-overflow_add-above c =
-    omega (arith, c.requires)
-
-pub refine-requires : goal.refine-requires
-refine-requires c =
-    let least = least_above_member _ _ (member (goal.at.refine-requires c).In-Some) in
+pub refine-kept-requires : goal.refine-kept-requires
+refine-kept-requires c =
+    let least = least_above_member _ _ (member (goal.at.refine-kept-requires c).In-Some) in
     let pre = c.requires in
     let kept = c.loop-v.invariant.1.words in record {
-      edges_len = (pre.edges_len.0, pre.edges_len.1, omega arith);
+      room = omega (arith, pre.room);
       row_bound = (
         pre.row_bound.0,
         pre.row_bound.1,
         least.below,
-        pre.row_bound.3,
         c.count_open-open.ensures ∙ sym (open_rows_same c.loop-v.invariant.1 (c.args.row.0 + 1) c.args.pairs (le_refl _)),
       );
     }
 
 -- the rows counted are those foretold from the level at entry
-counted : (c : After-refine)
-    → c.refine.result ≡ (let a = c.args in meet_rows a.edges.now a.masks.now a.row.0 a.pairs c.in-Some.v a.workspace.now)
+counted : (c : After-refine-kept) → c.refine-kept.result ≡ (let a = c.args in meet_rows a.tables.edges.now a.tables.masks.now a.row.0 a.pairs c.in-Some.v a.workspace.now)
 counted c =
     let a = c.args in
-    (c.refine.ensures.whole (omega arith)).0 ∙ meet_rows_same c.loop-v.invariant.1 a.edges.now a.masks.now a.row.0 a.pairs c.in-Some.v (le_refl _)
+    (c.refine-kept.ensures.whole (omega arith)).0 ∙ meet_rows_same c.loop-v.invariant.1 a.tables.edges.now a.tables.masks.now a.row.0 a.pairs c.in-Some.v (le_refl _)
 
-pub overflow_add-above-in-Some : goal.overflow_add-above-in-Some
-overflow_add-above-in-Some c =
+pub overflow_add-pairs-in-Some : goal.overflow_add-pairs-in-Some
+overflow_add-pairs-in-Some c =
     let a = c.args in
-    let few = meet_rows_max a.edges.now a.masks.now a.row.0 a.pairs c.in-Some.v a.workspace.now in
-    omega (arith, c.requires, counted (goal.at.overflow_add-above-in-Some c).After-refine)
-
-pub loop-v-smaller-then-top-above : goal.loop-v-smaller-then-top-above
-loop-v-smaller-then-top-above c =
-    let least = least_above_member _ _ (member (goal.at.loop-v-smaller-then-top-above c).In-Some) in
-    omega (arith, least.above, least.below)
-
-pub loop-v-preserved-then-top-above : goal.loop-v-preserved-then-top-above
-loop-v-preserved-then-top-above c =
-    let own = c.refine.ensures.kept in (
-      row_more c.loop-v.invariant.0 (member (goal.at.loop-v-preserved-then-top-above c).In-Some) (omega (arith, c.if-top-above.true, counted (goal.at.loop-v-preserved-then-top-above c).After-refine)),
-      same_more c.loop-v.invariant.1 _ (le_refl _) own,
-    )
+    let few = meet_rows_max a.tables.edges.now a.tables.masks.now a.row.0 a.pairs c.in-Some.v a.workspace.now in
+    omega (arith, c.requires, counted (goal.at.overflow_add-pairs-in-Some c).After-refine-kept)
 
 pub loop-v-smaller : goal.loop-v-smaller
 loop-v-smaller c =
@@ -81,12 +60,12 @@ loop-v-smaller c =
 
 pub loop-v-preserved : goal.loop-v-preserved
 loop-v-preserved c =
-    let own = c.refine.ensures.kept in (
-      row_more c.loop-v.invariant.0 (member (goal.at.loop-v-preserved c).In-Some) (omega (arith, c.if-top-above.false, counted (goal.at.loop-v-preserved c).After-refine)),
-      same_more c.loop-v.invariant.1 _ (le_refl _) own,
+    let here = goal.at.loop-v-preserved c in (
+      row_more c.loop-v.invariant.0 (member here.In-Some) (omega (arith, c.max-top.ensures, counted here.After-refine-kept)),
+      same_more c.loop-v.invariant.1 _ (le_refl _) c.refine-kept.ensures.kept,
     )
 
-pub returns-in-None : goal.returns-in-None
-returns-in-None c =
-    let none = ap (λ (w : ℕ). least_above w c.loop-v.last) (sym c.level_word-word.ensures) ∙ sym c.least_above.ensures ∙ c.in-None.is in
+pub returns : goal.returns
+returns c =
+    let none = ap (λ (w : ℕ). least_above w c.loop-v.last) (sym c.level_word-word.ensures) ∙ sym c.least_above.ensures ∙ c.in_default.is in
     record { kept = c.loop-v.invariant.1; top = row_all c.loop-v.invariant.0 none }

@@ -8,7 +8,7 @@ use Rattle.search.proofs.ceiling.row_top.Given as goal
 
 abbrev pub invariant-loop-v : goal.invariant-loop-v
 invariant-loop-v l =
-    RowHead l.edges l.masks l.initial.workspace l.row.0 l.pairs l.initial.last l.top l.last × SameLevels l.pairs l.initial.workspace l.workspace
+    RowHead l.tables.edges.now l.tables.masks.now l.initial.workspace l.row.0 l.pairs l.initial.last l.top l.last × SameLevels l.pairs l.initial.workspace l.workspace
 
 abbrev pub decreases-loop-v : goal.decreases-loop-v
 decreases-loop-v l = 64 - l.last

@@ -4,12 +4,8 @@ use lib.ListN.{get_or}
 use Rattle.connected.specs.Spreading.{connected_set}
 use Rattle.search.proofs.walk.admitted.Goals as goal
 
-pub returns-then-not-connected : goal.returns-then-not-connected
-returns-then-not-connected c = λ path depth ws long deep counted t. rw (c.if-not-connected.true)
-
-pub returns : goal.returns
-returns c =
-    let args = c.args in
-    λ path depth ws long deep counted t.
-    rw (c.if-not-connected.false) (c.is_connected_set.ensures
-    ∙ ap (connected_set (λ v. get_or args.neighbours.now v 0)) (c.trail_rows.ensures path depth ws long deep counted t))
+pub returns-else-not-tables : goal.returns-else-not-tables
+returns-else-not-tables c = λ path depth ws long deep counted t.
+    rw c.if-not-tables.false
+    (c.is_connected_set.ensures
+    ∙ ap (connected_set (λ v. get_or c.args.tables.neighbours.now v 0)) (c.trail_rows.ensures path depth ws long deep counted t))

@@ -67,9 +67,9 @@ overflow_cast-value c = omega (arith, value (goal.at.overflow_cast-value c).Then
 
 pub refine-requires : goal.refine-requires
 refine-requires c =
-    let bounds = c.requires.in_bounds in
-    let l = c.loop-row in
-    let inside = row_inside (goal.at.refine-requires c).At-loop-row c.loop-row-test.true in record { edges_len = (bounds.edges_length, bounds.masks_length, room (goal.at.refine-requires c).At-loop-row); row_bound = (inside, few (goal.at.refine-requires c).At-loop-row, value (goal.at.refine-requires c).Then-value, bounds.first_are l.row inside, c.count_open-later.ensures) }
+    let at = goal.at.refine-requires c in
+    let inside = row_inside at.At-loop-row c.loop-row-test.true in
+    record { room = room at.At-loop-row; row_bound = (inside, few at.At-loop-row, value at.Then-value, c.count_open-later.ensures) }
 
 pub overflow_add-pairs : goal.overflow_add-pairs
 overflow_add-pairs c =

@@ -6,4 +6,4 @@ use Rattle.search.proofs.walk.rebuild.Given as goal
 
 abbrev pub invariant-loop-row : goal.invariant-loop-row
 invariant-loop-row l =
-    RebuiltTo l.edges l.masks l.path l.depth l.initial.workspace l.workspace l.row l.pairs × Trail l.path l.row l.trail l.workspace
+    RebuiltTo l.tables.edges.now l.tables.masks.now l.path l.depth l.initial.workspace l.workspace l.row l.pairs × Trail l.path l.row l.trail l.workspace

@@ -1,47 +1,36 @@
-use mathlib.Core.Path.{◌≡◌, refl, sym, ◌∙◌}
-use mathlib.Core.Bool.{Bool, true, false, not, true≢false}
+use mathlib.Core.Path.{◌≡◌, sym, ◌∙◌}
+use mathlib.Core.Bool.{false, true≢false}
 use Prim.Native.Nat.{◌+◌}
 use native.Mathlib.Nat.{le_refl}
 use native.Mathlib.Omega.{arith}
 use Rattle.search.proofs.RunTurn.{RanTo, ran_none, ran_more, visited_steps, EndsAt, goes_on, ran_out}
 use Rattle.search.proofs.walk.run.Goals as goal
-use Rattle.search.proofs.walk.run.Goals.{After-visit-at, Joined-not-finished, else-not-finished, then-not-finished}
-
--- a test that is turned round
-not_true : (b : Bool) → not b ≡ true → b ≡ false
-not_true true e = sym e
-not_true false e = refl
-
-not_false : (b : Bool) → not b ≡ false → b ≡ true
-not_false true e = refl
-not_false false e = sym e
+use Rattle.search.proofs.walk.run.Goals.{After-visit-at, Joined-walk, else-walk, then-walk}
 
 pub overflow_add-last : goal.overflow_add-last
 overflow_add-last c =
-    omega (arith, c.requires.0 (c.if-not-finished.true))
+    omega (arith, c.requires.0 (c.if-walk.false))
 
 -- where the loop ends, before it
-ends : (c : Joined-not-finished)
-    → (let a = c.args in EndsAt a.budget a.walk a.walk c.if-not-finished.last)
+ends : (c : Joined-walk)
+    → (let a = c.args in EndsAt a.budget a.walk a.walk c.if-walk.last)
 ends c =
-    elim c.if-not-finished.branch [
-      | then-not-finished w ↦ let busy = w.if-not-finished.true in
-          record { busy = λ e. (w.last-is, omega (arith, w.last-is, c.requires.0 busy)); done = λ e. absurd (true≢false (sym e ∙ busy)) }
-      | else-not-finished w ↦ let done = w.if-not-finished.false in
+    elim c.if-walk.branch [
+      | then-walk w ↦ let done = w.if-walk.true in
           record { busy = λ e. absurd (true≢false (sym done ∙ e)); done = λ e. omega (arith, w.last-is) }
+      | else-walk w ↦ let busy = w.if-walk.false in
+          record { busy = λ e. (w.last-is, omega (arith, w.last-is, c.requires.0 busy)); done = λ e. absurd (true≢false (sym e ∙ busy)) }
     ]
 
 pub loop-at-init : goal.loop-at-init
 loop-at-init c =
-    (ends (goal.at.loop-at-init c).Joined-not-finished, ran_none c.requires.1, c.requires.2)
+    (ends (goal.at.loop-at-init c).Joined-walk, ran_none c.requires.1, c.requires.2)
 
 pub visit-at-requires : goal.visit-at-requires
 visit-at-requires c =
     let inv = c.loop-at.invariant in
-    let busy = goes_on inv.0 c.loop-at-test.true in record {
-      resumes = inv.1.resumes;
-      finished_value = (busy, omega (arith, c.loop-at-test.true, inv.0.busy busy), c.row_numbers-numbers.ensures, inv.2, c.requires.3);
-    }
+    let busy = goes_on inv.0 c.loop-at-test.true in
+    record { resumes = inv.1.resumes; goes_on = (busy, omega (arith, c.loop-at-test.true, inv.0.busy busy), inv.2) }
 
 -- the walk was not finished before it
 was_busy : (c : After-visit-at) → c.loop-at.at.checkpoint.finished ≡ false
@@ -50,28 +39,27 @@ was_busy c = goes_on c.loop-at.invariant.0 c.loop-at-test.true
 -- one step more
 stepped : (c : After-visit-at) → c.visit-at.result.checkpoint.steps ≡ c.loop-at.at.checkpoint.steps + 1
 stepped c =
-    let was_busy : c.loop-at.at.checkpoint.finished ≡ false = goes_on c.loop-at.invariant.0 c.loop-at-test.true in
-    visited_steps was_busy c.loop-at.invariant.1.resumes c.visit-at.ensures.visited
+    visited_steps (was_busy c) c.loop-at.invariant.1.resumes c.visit-at.ensures.visited
 
-pub loop-at-smaller-then-finished : goal.loop-at-smaller-then-finished
-loop-at-smaller-then-finished c =
+pub loop-at-smaller-then-at : goal.loop-at-smaller-then-at
+loop-at-smaller-then-at c =
     omega (arith, c.loop-at-test.true)
 
 -- one visit more
 ran : (c : After-visit-at)
     → (let a = c.args in
-    RanTo a.connected a.budget a.order a.edges.now a.masks.now a.first.now a.workspace.now a.walk c.visit-at.new.workspace
+    RanTo a.tables a.budget a.workspace.now a.walk c.visit-at.new.workspace
     c.visit-at.result)
 ran c =
-    let was_busy : c.loop-at.at.checkpoint.finished ≡ false = goes_on c.loop-at.invariant.0 c.loop-at-test.true in
     let inv = c.loop-at.invariant in
-    ran_more inv.1 (omega (arith, (inv.0.busy was_busy).0, c.loop-at-test.true)) was_busy
+    let busy = was_busy c in
+    ran_more inv.1 (omega (arith, (inv.0.busy busy).0, c.loop-at-test.true)) busy
     c.visit-at.auto.workspace c.visit-at.ensures.visited
 
-pub loop-at-preserved-then-finished : goal.loop-at-preserved-then-finished
-loop-at-preserved-then-finished c = (
-  record { busy = λ e. absurd (true≢false (sym c.if-finished.true ∙ e)); done = λ e. le_refl _ },
-  ran (goal.at.loop-at-preserved-then-finished c).After-visit-at,
+pub loop-at-preserved-then-at : goal.loop-at-preserved-then-at
+loop-at-preserved-then-at c = (
+  record { busy = λ e. absurd (true≢false (sym c.if-at.true ∙ e)); done = λ e. le_refl _ },
+  ran (goal.at.loop-at-preserved-then-at c).After-visit-at,
   c.visit-at.ensures.trail,
 )
 
@@ -81,7 +69,7 @@ loop-at-smaller c =
 
 pub loop-at-preserved : goal.loop-at-preserved
 loop-at-preserved c = (
-  record { busy = λ e. c.loop-at.invariant.0.busy (was_busy (goal.at.loop-at-preserved c).After-visit-at); done = λ e. absurd (true≢false (sym e ∙ c.if-finished.false)) },
+  record { busy = λ e. c.loop-at.invariant.0.busy (was_busy (goal.at.loop-at-preserved c).After-visit-at); done = λ e. absurd (true≢false (sym e ∙ c.if-at.false)) },
   ran (goal.at.loop-at-preserved c).After-visit-at,
   c.visit-at.ensures.trail,
 )

@@ -7,7 +7,7 @@ use Rattle.search.proofs.walk.run.Given as goal
 
 abbrev pub invariant-loop-at : goal.invariant-loop-at
 invariant-loop-at l =
-    EndsAt l.budget l.initial.at l.at l.last × RanTo l.connected l.budget l.order l.edges l.masks l.first l.initial.workspace l.initial.at l.workspace l.at
+    EndsAt l.budget l.initial.at l.at l.last × RanTo l.tables l.budget l.initial.workspace l.initial.at l.workspace l.at
     × Trail l.at.checkpoint.path l.at.checkpoint.depth l.trail l.workspace
 
 abbrev pub decreases-loop-at : goal.decreases-loop-at

@@ -17,16 +17,16 @@ use Rattle.search.proofs.NodeWords.{open_rows_max, size_take_max}
 use Rattle.search.proofs.ReadyWalk.{own_order}
 use Rattle.search.proofs.ResumedWalk.{cutoff_counted}
 use Rattle.search.proofs.walk.start.Goals as goal
-use Rattle.search.proofs.walk.start.Goals.{After-mapping_size-pairs, After-slice_known-2-1, else-holds, then-holds}
+use Rattle.search.proofs.walk.start.Goals.{After-mapping_size-pairs, else-checkpoint, then-checkpoint}
 
 pub slice_bounds-mapping_size-end : goal.slice_bounds-mapping_size-end
 slice_bounds-mapping_size-end c =
-    sym (length-take-le c.args.order c.args.checkpoint.incumbent (omega (arith, c.requires.incumbent_len)))
+    sym (length-take-le c.args.tables.order c.args.checkpoint.incumbent (omega (arith, c.requires.lengths, c.args.tables.sizes)))
 
 pub overflow_add-cutoff : goal.overflow_add-cutoff
 overflow_add-cutoff c =
     let a = c.args in
-    omega (arith, c.mapping_size-cutoff.ensures, size_max (take a.order a.checkpoint.incumbent), length-take a.order a.checkpoint.incumbent)
+    omega (arith, c.mapping_size.ensures, size_max (take a.tables.order a.checkpoint.incumbent), length-take a.tables.order a.checkpoint.incumbent)
 
 pub slice_bounds-mapping_size-end-2 : goal.slice_bounds-mapping_size-end-2
 slice_bounds-mapping_size-end-2 c =
@@ -35,17 +35,17 @@ slice_bounds-mapping_size-end-2 c =
 
 pub rebuild-requires : goal.rebuild-requires
 rebuild-requires c =
-    record { in_bounds = c.requires.in_bounds; trail_len = c.requires.incumbent_len.2 }
+    record { in_bounds = c.requires.in_bounds; trail_len = c.requires.lengths.1 }
 
 -- the cutoff counted is the state's
 cutoff_is : (c : After-mapping_size-pairs) {P : Problem} {edges masks : List ℕ}
     → (let a = c.args in
-    Setting P a.order edges masks
-    → c.if-holds.cutoff ≡ cutoff a.checkpoint.minimum (state_of P.old.order a.checkpoint).incumbent)
+    Setting P a.tables.order edges masks
+    → c.if-checkpoint.cutoff ≡ cutoff a.checkpoint.minimum (state_of P.old.order a.checkpoint).incumbent)
 cutoff_is c setting =
     let a = c.args in
-    rw setting.order_is (cutoff_counted a.order _ a.checkpoint
-    (elim c.if-holds.branch [ then-holds w ↦ inl (w.if-holds.true, w.cutoff-is ∙ ap (λ (k : ℕ). k + 1) w.mapping_size-cutoff.ensures) | else-holds w ↦ inr (w.if-holds.false, w.cutoff-is) ]))
+    rw setting.order_is (cutoff_counted a.tables.order _ a.checkpoint
+    (elim c.if-checkpoint.branch [ then-checkpoint w ↦ inl (w.if-checkpoint.true, w.cutoff-is ∙ ap (λ (k : ℕ). k + 1) w.mapping_size.ensures) | else-checkpoint w ↦ inr (w.if-checkpoint.false, w.cutoff-is) ]))
 
 pub overflow_add-bound : goal.overflow_add-bound
 overflow_add-bound c =
@@ -64,7 +64,7 @@ returns-then-pairs-lt-MAX_ORDER c =
     record {
       starts = λ connected P setting shape words.
           let start : Accepted connected P c.args.checkpoint =
-          record { sound = setting.sound; shape = shape; path_long = c.requires.in_bounds.path_length; incumbent_long = c.requires.incumbent_len.0 } in
+          record { sound = setting.sound; shape = shape; path_long = c.requires.in_bounds.path_length; incumbent_long = c.requires.lengths.0 } in
           call_starts start setting (omega (arith, c.requires.in_bounds.room, c.rebuild.auto.workspace)) c.mapping_size-pairs.ensures
           (c.rebuild.ensures.words P (own_order setting) shape.depth_max (shape_reached start) words) (cutoff_is (goal.at.returns-then-pairs-lt-MAX_ORDER c).After-mapping_size-pairs setting)
           (inl (c.if-pairs-lt-MAX_ORDER.true, ap (λ (k : ℕ). c.mapping_size-pairs.result + k) c.count_open.ensures));
@@ -76,7 +76,7 @@ returns-else-pairs-lt-MAX_ORDER c =
     record {
       starts = λ connected P setting shape words.
           let start : Accepted connected P c.args.checkpoint =
-          record { sound = setting.sound; shape = shape; path_long = c.requires.in_bounds.path_length; incumbent_long = c.requires.incumbent_len.0 } in
+          record { sound = setting.sound; shape = shape; path_long = c.requires.in_bounds.path_length; incumbent_long = c.requires.lengths.0 } in
           call_starts start setting (omega (arith, c.requires.in_bounds.room, c.rebuild.auto.workspace)) c.mapping_size-pairs.ensures
           (c.rebuild.ensures.words P (own_order setting) shape.depth_max (shape_reached start) words) (cutoff_is (goal.at.returns-else-pairs-lt-MAX_ORDER c).After-mapping_size-pairs setting)
           (inr (c.if-pairs-lt-MAX_ORDER.false, refl));

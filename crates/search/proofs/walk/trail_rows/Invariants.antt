@@ -8,11 +8,7 @@ use Rattle.search.specs.Walking.{Trail}
 use Rattle.search.proofs.TrailRows.{Gathered}
 use Rattle.search.proofs.walk.trail_rows.Given as goal
 
-abbrev pub invariant-loop-left : goal.invariant-loop-left
-invariant-loop-left l =
-    (l.left ≤ l.pairs)
-    × ((path : List ℕ) (depth : ℕ) (ws : List ℕ) → length path ≡ 64 → depth ≤ 64 → l.pairs ≡ size (take depth path) → Trail path depth l.trail ws
-    → Gathered path depth l.left l.set)
-
-abbrev pub decreases-loop-left : goal.decreases-loop-left
-decreases-loop-left l = l.left
+abbrev pub invariant-loop-before : goal.invariant-loop-before
+invariant-loop-before l =
+    (path : List ℕ) (depth : ℕ) (ws : List ℕ) → length path ≡ 64 → depth ≤ 64 → l.pairs ≡ size (take depth path) → Trail path depth l.trail ws
+    → Gathered path depth l.before l.set

@@ -13,7 +13,7 @@ use Rattle.bitset.proofs.SetOf.{member_set_of}
 use Rattle.graph.specs.Graph.{place}
 use Rattle.search.proofs.words.first_rows.Invariants.{Passed}
 use Rattle.search.proofs.words.first_rows.Goals as goal
-use Rattle.search.proofs.words.first_rows.Goals.{else-many+else-edges-from-ne0, else-many+then-edges-from-ne0, then-many}
+use Rattle.search.proofs.words.first_rows.Goals.{else-many+else-edges-from-ne0, then-many}
 
 module _ (edges : List ℕ) (row word r : ℕ) (inside : r < 64) (passed : Passed edges row word r) where
   -- the row is put into the word,
@@ -32,17 +32,17 @@ module _ (edges : List ℕ) (row word r : ℕ) (inside : r < 64) (passed : Passe
       ⊎_elim (λ (q : k ≡ r). rw q null) (λ less. passed k after less out) (eq-or-lt_of_le (omega arith))
 
 pub loop-r-init : goal.loop-r-init
-loop-r-init c = (omega arith, omega arith, λ k after below. absurd (omega arith))
+loop-r-init c = λ k after below. absurd (omega arith)
 
 pub loop-r-preserved : goal.loop-r-preserved
 loop-r-preserved c =
     let l = c.loop-r in
-    let a = c.args in
-    let more = added a.edges.now a.row.0 l.word l.r (omega arith) l.invariant.2 in (
-      omega arith,
-      omega arith,
-      elim c.if-many.branch [ then-many w ↦ rw (w.word-is, w.with-word.ensures) more | else-many+then-edges-from-ne0 w ↦ rw (w.word-is, w.with-word-then-edges-from-ne0.ensures) more | else-many+else-edges-from-ne0 w ↦ rw w.word-is (skipped a.edges.now a.row.0 l.word l.r (omega arith) l.invariant.2 w.if-edges-from-ne0.false) ],
-    )
+    let edges = c.args.edges.now in
+    let row = c.args.row.0 in
+    elim c.if-many.branch [
+      | then-many w ↦ rw (w.word-is, w.with-word.ensures) (added edges row l.word l.r c.loop-r-test.true l.invariant)
+      | else-many+else-edges-from-ne0 w ↦ rw w.word-is (skipped edges row l.word l.r c.loop-r-test.true l.invariant w.if-edges-from-ne0.false)
+    ]
 
 pub returns : goal.returns
-returns c r after h = c.loop-r.invariant.2 r after (omega arith)
+returns c r after h = c.loop-r.invariant r after (omega arith)

@@ -3,7 +3,7 @@
 use mathlib.Core.Path.{◌≡◌}
 use mathlib.Core.Bool.{false}
 use mathlib.Core.List.{List}
-use Prim.Native.Nat.{ℕ, ◌≤◌, ◌<◌}
+use Prim.Native.Nat.{ℕ, ◌<◌}
 use lib.ListN.{get_or}
 use Rattle.bitset.specs.Members.{member}
 use Rattle.graph.specs.Graph.{place}
@@ -14,4 +14,4 @@ abbrev pub Passed : List ℕ → ℕ → ℕ → ℕ → Type 0
 Passed edges row word r = (k : ℕ) → row < k → k < r → member word k ≡ false → get_or edges (place row k) 0 ≡ 0
 
 abbrev pub invariant-loop-r : goal.invariant-loop-r
-invariant-loop-r l = (l.from < l.r) × (l.r ≤ 64) × Passed l.edges l.from l.word l.r
+invariant-loop-r l = Passed l.edges l.from l.word l.r

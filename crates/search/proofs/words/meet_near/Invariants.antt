@@ -7,7 +7,7 @@ use Rattle.search.proofs.words.meet_near.Given as goal
 
 abbrev pub invariant-loop-r : goal.invariant-loop-r
 invariant-loop-r l =
-    MetTo l.near (near_word l.edges l.masks l.from l.pairs l.value.0 l.initial.workspace) (l.pairs + 1) l.initial.workspace l.initial.rows l.initial.left l.workspace l.rest l.rows l.left
+    MetTo l.near (near_word l.tables.edges.now l.tables.masks.now l.from l.pairs l.value.0 l.initial.workspace) (l.pairs + 1) l.initial.workspace l.initial.rows l.initial.left l.workspace l.rest l.rows l.left
 
 abbrev pub decreases-loop-r : goal.decreases-loop-r
 decreases-loop-r l = l.rest
