@@ -1,5 +1,5 @@
 -- What a call learns of the two graphs that it reads into tables of its own.
-use mathlib.Core.Path.{◌≡◌, ap, sym, ◌∙◌}
+use mathlib.Core.Path.{◌≡◌}
 use mathlib.Core.List.{List}
 use Prim.Native.Nat.{ℕ}
 use lib.ListN.{replicate}
@@ -7,7 +7,7 @@ use Rattle.std.specs.Prelude.{Ok, Err}
 use Rattle.graph.specs.Graph.{graph}
 use Rattle.graph_reader.specs.declared.ReadError.{ReadError}
 use Rattle.graph_reader.specs.Answers.{read_refusal}
-use Rattle.problem.specs.Problem.{Problem, problem}
+use Rattle.problem.specs.Problem.{problem}
 use Rattle.problem_reader.specs.ProblemReading.{read, refusal, reading_problem, read_problem}
 use Rattle.problem_reader.specs.Answers.{BothRead, problem_reading_of}
 use Rattle.problem_reader.proofs.ReadProblem.{problem_read, problem_refused}
