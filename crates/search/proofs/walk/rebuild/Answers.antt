@@ -39,16 +39,9 @@ later_max c =
 pub overflow_mul-trail : goal.overflow_mul-trail
 overflow_mul-trail c = omega (arith, later_max c)
 
-pub overflow_mul-trail-then-value : goal.overflow_mul-trail-then-value
-overflow_mul-trail-then-value c =
-    omega (arith, row_inside (goal.at.overflow_mul-trail-then-value c).At-loop-row c.loop-row-test.true)
-
 pub overflow_add-trail : goal.overflow_add-trail
 overflow_add-trail c =
     omega (arith, later_max c, row_inside (goal.at.overflow_add-trail c).At-loop-row c.loop-row-test.true)
-
-pub overflow_cast-trail : goal.overflow_cast-trail
-overflow_cast-trail c = omega (arith, value (goal.at.overflow_cast-trail c).Then-value)
 
 pub overflow_add-trail-then-value : goal.overflow_add-trail-then-value
 overflow_add-trail-then-value c =
@@ -61,9 +54,6 @@ offset_bounds-trail-pairs c =
 pub bounds-trail-pairs : goal.bounds-trail-pairs
 bounds-trail-pairs c =
     omega (arith, few (goal.at.bounds-trail-pairs c).At-loop-row, row_inside (goal.at.bounds-trail-pairs c).At-loop-row c.loop-row-test.true)
-
-pub overflow_cast-value : goal.overflow_cast-value
-overflow_cast-value c = omega (arith, value (goal.at.overflow_cast-value c).Then-value)
 
 pub refine-requires : goal.refine-requires
 refine-requires c =
@@ -92,8 +82,3 @@ loop-row-preserved c =
           )
       | else-value w ↦ rw (w.trail-is, w.workspace-is, w.pairs-is) (rebuilt_left_out below w.if-value.false l.invariant.0, trail_left_out w.if-value.false l.invariant.1)
     ]
-
-pub returns : goal.returns
-returns c =
-    let inv = c.loop-row.invariant in
-    record { words = rebuilt_all c.loop-row-test.false inv.0; trail = trail_shorter (omega (arith, c.loop-row-test.false)) inv.1 }

@@ -82,9 +82,6 @@ returns-then-place-eq-UNMAPPED c =
 taken : (c : Else-place-eq-UNMAPPED) → LastTaken c.requires.path c.args.place
 taken c = last_taken c.requires c.if-place-eq-UNMAPPED.false
 
-pub overflow_sub-place : goal.overflow_sub-place
-overflow_sub-place c = (taken (goal.at.overflow_sub-place c).Else-place-eq-UNMAPPED).deep
-
 pub overflow_sub-place-2 : goal.overflow_sub-place-2
 overflow_sub-place-2 c = omega (arith, (taken (goal.at.overflow_sub-place-2 c).Else-place-eq-UNMAPPED).before)
 
