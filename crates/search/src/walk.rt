@@ -48,6 +48,7 @@ pub struct Walk {
 }
 
 // The upper bound of the node at a place, and its own words in the workspace; or, where the bound is below the cutoff, some number below it.
+#[tactic(auto, using(crate::proofs::NodeWords::open_rows_max, crate::proofs::NodeWords::pairs_max, crate::proofs::NodeWords::counted_max))]
 pub fn upper_bound(tables: Tables<'_>, workspace: &mut [u64], place: Place, cutoff: usize) -> usize
     requires { Placed place workspace.old }
     ensures bounded { (P : Problem) (path : List ℕ) → LendsEdges P tables.entry
@@ -396,6 +397,7 @@ pub fn run(
 }
 
 // The words of the path, from those of the root, and its trail.
+#[tactic(auto, using(crate::proofs::NodeWords::open_rows_max, crate::proofs::NodeWords::size_take_max, crate::proofs::NodeWords::entry_max))]
 pub fn rebuild(
     tables: Tables<'_>,
     path: &[u8; MAX_ORDER],

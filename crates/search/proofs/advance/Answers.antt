@@ -1,6 +1,6 @@
 -- `search::advance` meets its contract: the words of the checkpoint's path are rebuilt from those of the root, the visits are made, and the
 -- ceiling there is that of the walk (`AdvancedCall`). Assumes nothing.
-use mathlib.Core.Path.{◌≡◌, refl, sym, ◌∙◌}
+use mathlib.Core.Path.{◌≡◌, refl, ◌∙◌}
 use native.Mathlib.Omega.{arith}
 use borrow.Author.Rules.{rules}
 use lib.ListN.{length}

@@ -1,6 +1,6 @@
 use mathlib.Core.Path.{◌∙◌}
 use native.Mathlib.Omega.{arith}
-use Rattle.search.proofs.MovedPath.{moved_none, moved_more, moved_all}
+use Rattle.search.proofs.MovedPath.{moved_more}
 use Rattle.search.proofs.walk.move_down.Goals as goal
 use Rattle.search.proofs.walk.move_down.Goals.{else-numbers-i, then-numbers-i}
 

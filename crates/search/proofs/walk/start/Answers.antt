@@ -1,12 +1,11 @@
 -- `search::walk::start` meets its contract: the words of the path are rebuilt, and the pairs, the cutoff and the bound are those of
 -- the checkpoint's node (`ResumedWalk`, `AdvancedCall`). Assumes nothing.
-use mathlib.Core.Path.{◌≡◌, refl, sym, ap, ◌∙◌}
+use mathlib.Core.Path.{◌≡◌, refl, ap, ◌∙◌}
 use mathlib.Core.Logic.{inl, inr}
 use mathlib.Core.List.{List}
 use Prim.Native.Nat.{ℕ, ◌+◌, ◌≤◌}
 use native.Mathlib.Omega.{arith}
 use lib.ListN.{take, length-take}
-use lib.Seq.{length-take-le}
 use Rattle.problem.specs.Problem.{Problem}
 use Rattle.search_tree.specs.Walk.{cutoff}
 use Rattle.checkpoint.specs.Checkpoints.{state_of}

@@ -1,7 +1,6 @@
 use mathlib.Core.Path.{refl}
-use Prim.Native.Nat.{◌+◌, ◌*◌, ◌<◌}
+use Prim.Native.Nat.{◌+◌, ◌*◌}
 use native.Mathlib.Omega.{arith}
-use lib.ListN.{get_or}
 use Rattle.search.proofs.MaskRows.{masked_none, masked_self, masked_more, masked_all}
 use Rattle.search.proofs.words.mask_row.Goals as goal
 use Rattle.search.proofs.words.mask_row.Goals.{After-shared_slice_known-then-v-w-1, else-v-w, then-v-w}

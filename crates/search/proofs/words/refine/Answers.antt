@@ -3,7 +3,7 @@
 use mathlib.Core.Path.{◌≡◌, refl, sym, ap, ◌∙◌}
 use Prim.Native.Nat.{◌+◌, ◌*◌, ◌<◌}
 use native.Mathlib.Omega.{arith}
-use lib.ListN.{get_or, length-set}
+use lib.ListN.{get_or}
 use Rattle.bitset.specs.Members.{difference_of}
 use Rattle.bitset.specs.Count.{size}
 use Rattle.bitset.proofs.CountBelow.{count_below_congr}
