@@ -57,7 +57,7 @@ start-start-requires c =
     let at = goal.at.start-start-requires c in
     let g = given at.Start in record {
       in_bounds = call_bounds g c.fill_masks.ensures (omega (arith, root_whole at.After-root_words));
-      lengths = (g.incumbent_long, refl);
+      lengths = (g.incumbent_long, c.no_pairs-trail.ensures);
     }
 
 pub run-end-requires : goal.run-end-requires

@@ -1,9 +1,7 @@
-use mathlib.Core.Path.{ap}
-use Prim.Native.Nat.{ℕ, ◌<◌}
-use lib.ListN.{get_or}
+use mathlib.Core.Path.{refl}
+use Prim.Native.Nat.{◌<◌}
 use native.Mathlib.Omega.{arith}
 use Rattle.search.proofs.NodeWords.{size_mapped, entry_max}
-use Rattle.search.specs.Walking.{pair_number}
 use Rattle.search.proofs.Trails.{trail_none, trail_kept, trail_left_out, trail_taken}
 use Rattle.search.proofs.RebuildTurn.{rebuilt_none, rebuilt_left_out, rebuilt_taken}
 use Rattle.search.proofs.walk.rebuild.Goals as goal
@@ -29,7 +27,7 @@ loop-row-preserved c =
           rw (w.trail-is, w.workspace-is, w.pairs-is) (
             rebuilt_taken bounds.path_length bounds.depth_max below w.if-value.true (w.refine.ensures.whole (omega arith)).1 l.invariant.0,
             trail_kept (omega (arith, bounds.path_length)) (λ p h. w.refine.ensures.kept.sets p (omega (arith, l.invariant.0.pairs_are)))
-                (trail_taken bounds.path_length inside l.invariant.0.pairs_are small (ap (λ (n : ℕ). pair_number n l.row (get_or path l.row 0)) w.count_open-later.ensures) l.invariant.1),
+                (trail_taken bounds.path_length inside l.invariant.0.pairs_are small (record { row_is = refl; value_is = refl; later_is = w.count_open-later.ensures }) l.invariant.1),
           )
       | else-value w ↦ rw (w.trail-is, w.workspace-is, w.pairs-is) (rebuilt_left_out below w.if-value.false l.invariant.0, trail_left_out w.if-value.false l.invariant.1)
     ]
