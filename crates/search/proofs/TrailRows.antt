@@ -3,7 +3,7 @@ use mathlib.Core.Path.{◌≡◌, refl, sym, ap₂, ◌∙◌}
 use mathlib.Core.Bool.{true, false, ◌&&◌, ◌||◌, and-false}
 use mathlib.Core.Logic.{◌≢◌}
 use mathlib.Core.List.{List}
-use Prim.Native.Nat.{ℕ, ◌+◌, ◌-◌, ◌/◌, ◌%◌, ◌≤◌, ◌<◌}
+use Prim.Native.Nat.{ℕ, ◌+◌, ◌-◌, ◌≤◌, ◌<◌}
 use native.Mathlib.Nat.{le_refl}
 use native.Mathlib.Decide.{dec_lt, ℕ_discrete}
 use native.Mathlib.Omega.{arith}
@@ -15,10 +15,11 @@ use Rattle.bitset.specs.Members.{set_of, insert}
 use Rattle.bitset.proofs.SetOf.{set_of_congr, insert_set_of, set_of_lt, no_member, member_set_of}
 use Rattle.mapping.specs.Common.{unmapped, size}
 use Rattle.connected.specs.Spreading.{is_mapped, mapped_set}
-use Rattle.search.specs.Walking.{Trail}
+use Rattle.search.specs.declared.tables.Pair.{Pair}
+use Rattle.search.specs.Walking.{OnTrail}
 use Rattle.search.proofs.WordLevels.{size_take_le}
 use Rattle.search.proofs.Trails.{trail_shorter, pairs_fall}
-use Rattle.search.proofs.LastPairs.{Found, found, found_row}
+use Rattle.search.proofs.LastPairs.{Found, found}
 
 -- the rows of the pairs that are not among the first `left`
 pub record Gathered (path : List ℕ) (depth left set : ℕ) : Type 0 where
@@ -65,11 +66,11 @@ module _ (path : List ℕ) (depth : ℕ) (long : length path ≡ 64) (deep : dep
       none v (yes h) = rw (lt-leb depth v h)
       none v (no h) = rw (row_outside v (omega arith)) (and-false (leb depth v))
 
-  module _ {trail ws : List ℕ} (t : Trail path depth trail ws) where
+  module _ {trail : List Pair} {ws : List ℕ} (t : OnTrail path depth trail ws) where
     -- a turn adds the row of the last pair that is left,
-    pub gathered_more : {left set row : ℕ} → Gathered path depth left set → 0 < left → row ≡ get_or trail (left - 1) 0 / 64 % 64
+    pub gathered_more : {left set row : ℕ} (d : Pair) → Gathered path depth left set → 0 < left → row ≡ (get_or trail (left - 1) d).row.0
         → Gathered path depth (left - 1) (insert set row)
-    gathered_more {left} {set} {row} g some is = record {
+    gathered_more {left} {set} {row} d g some is = record {
       from = f.row;
       within = omega (arith, f.below, g.within);
       left_are = f.before;
@@ -80,7 +81,7 @@ module _ (path : List ℕ) (depth : ℕ) (long : length path ≡ 64) (deep : dep
         f = found long (omega (arith, g.within)) g.left_are (trail_shorter g.within t) some
 
         row_is : row ≡ f.row
-        row_is = is ∙ found_row long (omega (arith, g.within)) g.left_are (trail_shorter g.within t) f
+        row_is = is ∙ (f.says d).row_is
 
         same : (v : ℕ) → Dec (v ≡ f.row) → Dec (v < f.row) → Dec (v < g.from)
             → (eqb v f.row || (leb g.from v && is_mapped (take depth path) v)) ≡ (leb f.row v && is_mapped (take depth path) v)

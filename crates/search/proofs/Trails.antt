@@ -15,7 +15,8 @@ use Rattle.bitset.specs.Members.{member}
 use Rattle.bitset.proofs.CountBelow.{count_below_congr, count_below_one}
 use Rattle.mapping.specs.Common.{unmapped, size}
 use Rattle.search.specs.Words.{open_set, open_rows, level_word, ExactSet}
-use Rattle.search.specs.Walking.{pair_number, Trail}
+use Rattle.search.specs.declared.tables.Pair.{Pair}
+use Rattle.search.specs.Walking.{Says, OnTrail}
 use Rattle.search.proofs.Levels.{word_closed, exact_member}
 use Rattle.search.proofs.NodeWords.{size_take_max, size_mapped}
 use Rattle.search.proofs.WordLevels.{size_take_le}
@@ -58,15 +59,15 @@ module _ (ws : List ℕ) (pairs row : ℕ) where
           split (no m) = rw (lt-leb (row + 1) r (omega arith), lt-leb row r (omega arith)) refl
 
 -- No row, no pair.
-pub trail_none : (path trail ws : List ℕ) → length trail ≡ 64 → Trail path 0 trail ws
+pub trail_none : (path : List ℕ) (trail : List Pair) (ws : List ℕ) → length trail ≡ 64 → OnTrail path 0 trail ws
 trail_none path trail ws long = record { places = long; value = λ k h. absurd (omega arith); pair = λ k h. absurd (omega arith) }
 
 -- The first entries have a trail too,
-pub trail_shorter : {path trail ws : List ℕ} {d e : ℕ} → e ≤ d → Trail path d trail ws → Trail path e trail ws
+pub trail_shorter : {path ws : List ℕ} {trail : List Pair} {d e : ℕ} → e ≤ d → OnTrail path d trail ws → OnTrail path e trail ws
 trail_shorter h t = record { places = t.places; value = λ k l. t.value k (omega arith); pair = λ k l. t.pair k (omega arith) }
 
 -- and only they matter.
-pub trail_same : {trail ws : List ℕ} (p q : List ℕ) (d : ℕ) → take d p ≡ take d q → Trail p d trail ws → Trail q d trail ws
+pub trail_same : {trail : List Pair} {ws : List ℕ} (p q : List ℕ) (d : ℕ) → take d p ≡ take d q → OnTrail p d trail ws → OnTrail q d trail ws
 trail_same {trail} {ws} p q d same t = record {
   places = t.places;
   value = λ k l mapped. rw (entry k l) at (t.value k l (λ e. mapped (sym (entry k l) ∙ e)));
@@ -85,40 +86,43 @@ pairs_fall path d k h inside mapped =
     omega (arith, size_take_le path (k + 1) d (omega arith), size_mapped path k (omega arith) mapped)
 
 -- The sets of the levels before the last pair are all that matters of the workspace.
-pub trail_kept : {path trail ws ws' : List ℕ} {d : ℕ} → d ≤ length path → ((p : ℕ) → p < size (take d path) → open_set p ws' ≡ open_set p ws)
-    → Trail path d trail ws → Trail path d trail ws'
-trail_kept {path} {trail} {ws} {ws'} {d} inside same t = record {
+pub trail_kept : {path ws ws' : List ℕ} {trail : List Pair} {d : ℕ} → d ≤ length path → ((p : ℕ) → p < size (take d path) → open_set p ws' ≡ open_set p ws)
+    → OnTrail path d trail ws → OnTrail path d trail ws'
+trail_kept {path} {ws} {ws'} {trail} {d} inside same t = record {
   places = t.places;
   value = t.value;
-  pair = λ k l mapped.
-      t.pair k l mapped
-      ∙ ap (λ (n : ℕ). pair_number n k (get_or path k 0)) (open_rows_set (k + 1) (size (take k path)) ws ws' (same (size (take k path)) (pairs_fall path d k l inside mapped)));
+  pair = λ k l mapped d.
+      let p = t.pair k l mapped d in record {
+        row_is = p.row_is;
+        value_is = p.value_is;
+        later_is = p.later_is ∙ open_rows_set (k + 1) (size (take k path)) ws ws' (same (size (take k path)) (pairs_fall path _ k l inside mapped));
+      };
 }
 
 -- A row that is left out is no pair.
-pub trail_left_out : {path trail ws : List ℕ} {row : ℕ} → get_or path row 0 ≡ unmapped → Trail path row trail ws → Trail path (row + 1) trail ws
-trail_left_out {path} {trail} {ws} {row} out t = record {
+pub trail_left_out : {path ws : List ℕ} {trail : List Pair} {row : ℕ} → get_or path row 0 ≡ unmapped → OnTrail path row trail ws → OnTrail path (row + 1) trail ws
+trail_left_out {path} {ws} {trail} {row} out t = record {
   places = t.places;
   value = λ k l mapped. ⊎_elim (λ (e : k ≡ row). absurd (mapped (rw e out))) (λ b. t.value k b mapped) (eq-or-lt_of_le (omega arith));
   pair = λ k l mapped. ⊎_elim (λ (e : k ≡ row). absurd (mapped (rw e out))) (λ b. t.pair k b mapped) (eq-or-lt_of_le (omega arith));
 }
 
 -- A row that took a value is one pair more.
-pub trail_taken : {path trail ws : List ℕ} {row pairs code : ℕ} → length path ≡ 64 → row < 64 → pairs ≡ size (take row path)
-    → get_or path row 0 < 64 → code ≡ pair_number (open_rows (row + 1) pairs ws) row (get_or path row 0)
-    → Trail path row trail ws → Trail path (row + 1) (set trail pairs code) ws
-trail_taken {path} {trail} {ws} {row} {pairs} {code} long inside count small own t = record {
-  places = length-set trail pairs code ∙ t.places;
+pub trail_taken : {path ws : List ℕ} {trail : List Pair} {row pairs : ℕ} {p : Pair} → length path ≡ 64 → row < 64 → pairs ≡ size (take row path)
+    → get_or path row 0 < 64 → Says p (open_rows (row + 1) pairs ws) row (get_or path row 0)
+    → OnTrail path row trail ws → OnTrail path (row + 1) (set trail pairs p) ws
+trail_taken {path} {ws} {trail} {row} {pairs} {p} long inside count small own t = record {
+  places = length-set trail pairs p ∙ t.places;
   value = λ k l mapped. ⊎_elim (λ (e : k ≡ row). rw e small) (λ b. t.value k b mapped) (eq-or-lt_of_le (omega arith));
-  pair = λ k l mapped. ⊎_elim (last k) (λ b. earlier k b mapped) (eq-or-lt_of_le (omega arith));
+  pair = λ k l mapped d. ⊎_elim (last k d) (λ b. earlier k b mapped d) (eq-or-lt_of_le (omega arith));
 }
   where
-    last : (k : ℕ) → k ≡ row
-        → get_or (set trail pairs code) (size (take k path)) 0 ≡ pair_number (open_rows (k + 1) (size (take k path)) ws) k (get_or path k 0)
-    last k e =
-        rw (e, ← count) (get_or-set_same trail pairs code 0 (omega (arith, size_take_max path row, t.places)) ∙ own)
+    last : (k : ℕ) (d : Pair) → k ≡ row
+        → Says (get_or (set trail pairs p) (size (take k path)) d) (open_rows (k + 1) (size (take k path)) ws) k (get_or path k 0)
+    last k d e =
+        rw (e, ← count, get_or-set_same trail pairs p d (omega (arith, size_take_max path row, t.places))) own
 
-    earlier : (k : ℕ) → k < row → get_or path k 0 ≢ unmapped
-        → get_or (set trail pairs code) (size (take k path)) 0 ≡ pair_number (open_rows (k + 1) (size (take k path)) ws) k (get_or path k 0)
-    earlier k b mapped =
-        get_or-set_other trail pairs (size (take k path)) code 0 (λ e. omega (arith, pairs_fall path row k b (omega arith) mapped)) ∙ t.pair k b mapped
+    earlier : (k : ℕ) → k < row → get_or path k 0 ≢ unmapped → (d : Pair)
+        → Says (get_or (set trail pairs p) (size (take k path)) d) (open_rows (k + 1) (size (take k path)) ws) k (get_or path k 0)
+    earlier k b mapped d =
+        rw (get_or-set_other trail pairs (size (take k path)) p d (λ e. omega (arith, pairs_fall path row k b (omega arith) mapped))) (t.pair k b mapped d)

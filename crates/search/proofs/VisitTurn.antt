@@ -20,12 +20,13 @@ use Rattle.search_tree.specs.Walk.{State, cutoff, go_on, visit, visit_path}
 use Rattle.search_tree.proofs.Shape.{visit_shape}
 use Rattle.checkpoint.specs.declared.Checkpoint.{Checkpoint}
 use Rattle.search.specs.declared.tables.Tables.{Tables}
+use Rattle.search.specs.declared.tables.Pair.{Pair}
 use Rattle.search.specs.declared.walk.Place.{Place}
 use Rattle.search.specs.declared.walk.Walk.{Walk}
 use Rattle.checkpoint.specs.Checkpoints.{checkpoint_of, state_of}
 use Rattle.search.specs.Words.{Words, ExactSet, open_rows}
 use Rattle.search.specs.Walking.{Setting, AtNode, InBounds, Ready, Arrives, Bounded, RestZero, Descends, Retreats, Resumes}
-use Rattle.search.specs.Walking.{Trail, OpenIs, LastIs}
+use Rattle.search.specs.Walking.{OnTrail, OpenIs, LastIs}
 use Rattle.checkpoint.proofs.CheckpointState.{checkpoint_tidy}
 use Rattle.search.proofs.ReadyWalk.{own_order, node_length}
 use Rattle.search.proofs.NodeWords.{pairs_max, node_bound}
@@ -350,8 +351,8 @@ pub data Moves (connected : Bool) (n : ℕ) (edges : List ℕ) (w : Walk) (ws : 
       → Moves connected n edges w ws w.checkpoint.holds w.checkpoint.incumbent w.cutoff path' r
 
 -- what is known of the path that a visit leads to, beside its node: its trail, its last entry, and the rows that are open before that is met
-pub record Led (path' : List ℕ) (r : Place) (trail' ws : List ℕ) : Type 0 where
-  pub trail : Trail path' r.depth trail' ws
+pub record Led (path' : List ℕ) (r : Place) (trail' : List Pair) (ws : List ℕ) : Type 0 where
+  pub trail : OnTrail path' r.depth trail' ws
   pub open_is : OpenIs r.depth r.pairs r.last r.later ws
   pub last_is : LastIs path' r.depth r.last
 

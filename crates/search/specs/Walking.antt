@@ -1,6 +1,6 @@
 -- What the search's code holds between two visits: a checkpoint with its pairs and its cutoff counted, and the words of its path's ancestors
 -- (01, "The walk" and "Bookmark and calls").
-use Rattle.std.specs.Prelude.{◌≡◌, Bool, true, false, ◌⊎◌, ◌≢◌, List, [], ◌∷◌, map, ℕ, suc, ◌+◌, ◌-◌, ◌*◌, ◌^◌, ◌≤◌, ◌<◌, length, get_or, take}
+use Rattle.std.specs.Prelude.{◌≡◌, Bool, true, false, ◌⊎◌, ◌≢◌, List, [], ◌∷◌, map, ℕ, suc, ◌+◌, ◌-◌, ◌^◌, ◌≤◌, ◌<◌, length, get_or, take}
 use Rattle.graph.specs.Graph.{graph}
 use Rattle.problem.specs.Problem.{Problem, SoundProblem}
 use Rattle.mapping.specs.Common.{unmapped, size}
@@ -10,6 +10,7 @@ use Rattle.search_tree.specs.Trees.{Reached}
 use Rattle.search_tree.specs.Walk.{State, cutoff}
 use Rattle.search_tree.specs.Ceiling.{top_bound}
 use Rattle.search.specs.declared.tables.Tables.{Tables}
+use Rattle.search.specs.declared.tables.Pair.{Pair}
 use Rattle.search.specs.declared.walk.Place.{Place}
 use Rattle.search.specs.declared.walk.Walk.{Walk}
 use Rattle.checkpoint.specs.declared.Checkpoint.{Checkpoint}
@@ -91,16 +92,18 @@ pub record Moved (path : List ℕ) (depth last : ℕ) (path' : List ℕ) : Type 
   pub entry : (i : ℕ) → i + 1 ≡ depth → i < 64 → get_or path' i 0 ≡ last
   pub rest : RestZero path' depth
 
--- a pair in one number: how many later rows had a candidate before it was met, its row, and its value
-abbrev pub pair_number : ℕ → ℕ → ℕ → ℕ
-pair_number later row value = 4096 * later + 64 * row + value
+-- what a pair on the trail says: how many later rows had a candidate before it was met, its row, and its value
+pub record Says (p : Pair) (later row value : ℕ) : Type 0 where
+  pub row_is : p.row.0 ≡ row
+  pub value_is : p.value.0 ≡ value
+  pub later_is : p.later ≡ later
 
 -- the pairs of the path's first `depth` entries, each at the number of pairs before it
-pub record Trail (path : List ℕ) (depth : ℕ) (trail workspace : List ℕ) : Type 0 where
+pub record OnTrail (path : List ℕ) (depth : ℕ) (trail : List Pair) (workspace : List ℕ) : Type 0 where
   pub places : length trail ≡ 64
   pub value : (k : ℕ) → k < depth → get_or path k 0 ≢ unmapped → get_or path k 0 < 64
-  pub pair : (k : ℕ) → k < depth → get_or path k 0 ≢ unmapped
-      → get_or trail (size (take k path)) 0 ≡ pair_number (open_rows (k + 1) (size (take k path)) workspace) k (get_or path k 0)
+  pub pair : (k : ℕ) → k < depth → get_or path k 0 ≢ unmapped → (d : Pair)
+      → Says (get_or trail (size (take k path)) d) (open_rows (k + 1) (size (take k path)) workspace) k (get_or path k 0)
 
 -- how many rows from `depth` on have a candidate before the last entry is met
 pub record OpenIs (depth pairs last later : ℕ) (workspace : List ℕ) : Type 0 where

@@ -17,6 +17,7 @@ use mapping::{NewVertex, OldVertex, UNMAPPED};
 
 // One more than the greatest upper bound among the later siblings at `row`, which has taken `value` after `pairs` pairs. Their words are made in
 // the level after theirs, which is needed no more.
+#[tactic(auto, using(crate::proofs::NodeWords::open_rows_max, crate::proofs::NodeWords::meet_rows_max))]
 pub fn row_top(
     tables: Tables<'_>,
     workspace: &mut [u64],
@@ -44,6 +45,7 @@ pub fn row_top(
 
 // One more than the greatest upper bound among the later siblings of the node and of its ancestors. A level is passed over where its parent's
 // bound shows that it cannot raise the greatest so far.
+#[tactic(auto, using(crate::proofs::NodeWords::open_rows_max, crate::proofs::NodeWords::size_take_max, crate::proofs::NodeWords::entry_max, crate::proofs::LaterTop::level_pairs))]
 pub fn later_top(
     tables: Tables<'_>,
     path: &[u8; MAX_ORDER],

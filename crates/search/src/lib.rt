@@ -91,7 +91,7 @@ fn advance<'a>(
         neighbours: &neighbours,
         numbers: &numbers,
     };
-    let mut trail = [0usize; MAX_ORDER];
+    let mut trail = tables::no_pairs();
     let start = walk::start(checkpoint, tables, &mut trail, workspace);
     let end = walk::run(start, tables, budget, &mut trail, workspace);
     let top = ceiling::ceiling(end, tables, workspace);

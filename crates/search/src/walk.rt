@@ -13,18 +13,14 @@ ghost use Rattle.checkpoint.specs.Checkpoints.{state_of, InShape};
 ghost use Rattle.search.specs.Rows.{Numbers};
 ghost use Rattle.search.specs.Words.{Words, ExactSet, open_set, open_rows};
 ghost use Rattle.search.specs.Walking.{Lends, LendsEdges, AtNode, InBounds, Ready, Arrives, Bounded, Descends, Retreats, CountFits, Resumes, Starts};
-ghost use Rattle.search.specs.Walking.{RestZero, Moved, Trail, OpenIs, LastIs, Placed};
+ghost use Rattle.search.specs.Walking.{RestZero, Moved, OnTrail, OpenIs, LastIs, Placed};
 ghost use Rattle.search.specs.Call.{visits};
 
-use super::tables::Tables;
+use super::tables::{Pair, Tables, Trail};
 use super::words;
 use checkpoint::Checkpoint;
 use graph::MAX_ORDER;
 use mapping::{NewVertex, OldVertex, UNMAPPED};
-
-// The trail that is lent along with the workspace has the pairs on the path, each at the number of pairs before it, so that no visit reads the path. A
-// pair is one number: its value, its row times MAX_ORDER, and how many later rows had a candidate before it was met, times LATER.
-const LATER: usize = MAX_ORDER * MAX_ORDER;
 
 // Where the walk stands: the next node's depth and number of pairs, or finished at depth 0. `last` is its last row's entry, and `later` tells how
 // many rows after it have a candidate before that entry is met: where the row is left out, none is lost.
@@ -48,6 +44,7 @@ pub struct Walk {
 }
 
 // The upper bound of the node at a place, and its own words in the workspace; or, where the bound is below the cutoff, some number below it.
+#[tactic(auto, using(crate::proofs::NodeWords::open_rows_max, crate::proofs::NodeWords::pairs_max, crate::proofs::NodeWords::counted_max))]
 pub fn upper_bound(tables: Tables<'_>, workspace: &mut [u64], place: Place, cutoff: usize) -> usize
     requires { Placed place workspace.old }
     ensures bounded { (P : Problem) (path : List ℕ) → LendsEdges P tables.entry
@@ -125,7 +122,7 @@ pub fn move_down(numbers: &[u8; MAX_ORDER], path: &mut [u8; MAX_ORDER], depth: u
 pub fn descend(
     numbers: &[u8; MAX_ORDER],
     path: &mut [u8; MAX_ORDER],
-    trail: &mut [usize; MAX_ORDER],
+    trail: &mut Trail,
     workspace: &[u64],
     depth: usize,
     pairs: usize,
@@ -137,8 +134,8 @@ pub fn descend(
         → AtNode P path.old depth pairs workspace.now → Words P path.old depth workspace.now
         → Descends P path.old depth workspace.now result path.new }
     ensures trail { pairs ≡ size (take depth path.old)
-        → Trail path.old depth trail.old workspace.now
-        → Trail path.new result.depth trail.new workspace.now }
+        → OnTrail path.old depth trail.old workspace.now
+        → OnTrail path.new result.depth trail.new workspace.now }
     ensures later { (n : ℕ) → ExactSet n pairs workspace.now
         → OpenIs result.depth result.pairs result.last result.later workspace.now }
     ensures last { LastIs path.new result.depth result.last }
@@ -146,7 +143,11 @@ pub fn descend(
     match bitset::least_member(words::level_word(workspace, pairs, OldVertex(depth))) {
         Some(v) => {
             let later = rows - 1;
-            trail[pairs] = LATER * later + MAX_ORDER * depth + v;
+            trail[pairs] = Pair {
+                row: OldVertex(depth),
+                value: NewVertex(v),
+                later,
+            };
             let value = v as u8;
             move_down(numbers, path, (depth + 1) as u8, value);
             Place {
@@ -176,17 +177,17 @@ pub fn descend(
 pub fn retreat(
     numbers: &[u8; MAX_ORDER],
     path: &mut [u8; MAX_ORDER],
-    trail: &mut [usize; MAX_ORDER],
+    trail: &mut Trail,
     workspace: &[u64],
     pairs: usize,
 ) -> Place
     requires { Numbers numbers.now × (length path.old ≡ 64) × (length trail.old ≡ 64) × (4160 ≤ length workspace.now) × (pairs ≤ 64) }
     ensures sibling { (P : Problem) (depth : ℕ) → SoundProblem P → AtNode P path.old depth pairs workspace.now
-        → Trail path.old depth trail.old workspace.now
+        → OnTrail path.old depth trail.old workspace.now
         → Retreats P path.old depth workspace.now result path.new }
     ensures trail { (depth : ℕ) → depth ≤ 64 → pairs ≡ size (take depth path.old)
-        → Trail path.old depth trail.old workspace.now
-        → Trail path.new result.depth trail.new workspace.now
+        → OnTrail path.old depth trail.old workspace.now
+        → OnTrail path.new result.depth trail.new workspace.now
         × OpenIs result.depth result.pairs result.last result.later workspace.now }
     ensures last { LastIs path.new result.depth result.last }
 {
@@ -202,14 +203,12 @@ pub fn retreat(
     }
     let before = pairs - 1;
     let pair = trail[before];
-    let later = pair / LATER % 128;
-    let row = pair / MAX_ORDER % MAX_ORDER;
-    match bitset::least_above(
-        words::level_word(workspace, before, OldVertex(row)),
-        pair % MAX_ORDER,
-    ) {
+    let row = pair.row.0;
+    let later = pair.later;
+    let word = words::level_word(workspace, before, OldVertex(row));
+    match bitset::least_above(word, pair.value.0) {
         Some(v) => {
-            trail[before] = LATER * later + MAX_ORDER * row + v;
+            trail[before].value = NewVertex(v);
             let value = v as u8;
             move_back(numbers, path, (row + 1) as u8, value);
             Place {
@@ -244,23 +243,23 @@ pub fn neighbours_for(connected: bool, edges: &[u8]) -> [u64; MAX_ORDER]
 }
 
 // The rows of all `pairs` pairs on the trail, as a set.
-pub fn trail_rows(trail: &[usize; MAX_ORDER], pairs: usize) -> u64
+pub fn trail_rows(trail: &Trail, pairs: usize) -> u64
     requires { (length trail.now ≡ 64) × (pairs ≤ 64) }
     ensures { (path : List ℕ) (depth : ℕ) (workspace : List ℕ) → length path ≡ 64 → depth ≤ 64 → pairs ≡ size (take depth path)
-        → Trail path depth trail.now workspace → result ≡ mapped_set (take depth path) }
+        → OnTrail path depth trail.now workspace → result ≡ mapped_set (take depth path) }
 {
     let mut set = 0;
     for before in (0..pairs).rev() {
-        set = bitset::with(set, trail[before] / MAX_ORDER % MAX_ORDER);
+        set = bitset::with(set, trail[before].row.0);
     }
     set
 }
 
 // Whether a last node may be held: in the first search always, in the connected one where the rows of its pairs hang together.
-pub fn admitted(tables: Tables<'_>, trail: &[usize; MAX_ORDER], pairs: usize) -> bool
+pub fn admitted(tables: Tables<'_>, trail: &Trail, pairs: usize) -> bool
     requires { (length trail.now ≡ 64) × (pairs ≤ 64) }
     ensures { (path : List ℕ) (depth : ℕ) (workspace : List ℕ) → length path ≡ 64 → depth ≤ 64 → pairs ≡ size (take depth path)
-        → Trail path depth trail.now workspace
+        → OnTrail path depth trail.now workspace
         → result ≡ (not tables.entry.connected || connected_set (λ v. get_or tables.entry.neighbours.now v 0) (mapped_set (take depth path))) }
 {
     !tables.connected || connected::is_connected_set(tables.neighbours, trail_rows(trail, pairs))
@@ -268,19 +267,14 @@ pub fn admitted(tables: Tables<'_>, trail: &[usize; MAX_ORDER], pairs: usize) ->
 
 impl Walk {
     // One visit turns a checkpoint into the next, and leaves the words of the next node's ancestors.
-    pub fn visit(
-        self,
-        tables: Tables<'_>,
-        trail: &mut [usize; MAX_ORDER],
-        workspace: &mut [u64],
-    ) -> Walk
+    pub fn visit(self, tables: Tables<'_>, trail: &mut Trail, workspace: &mut [u64]) -> Walk
         requires resumes { Resumes tables self workspace.old }
         requires goes_on { (self.checkpoint.finished ≡ false) × (self.checkpoint.steps + 1 < 2 ^ 64)
-            × Trail self.checkpoint.path self.checkpoint.depth trail.old workspace.old }
+            × OnTrail self.checkpoint.path self.checkpoint.depth trail.old workspace.old }
         ensures visited { (P : Problem) → Lends P tables.entry → Ready tables.entry.connected P self workspace.old
             → Arrives tables.entry.connected P self.checkpoint.minimum
             (visit (search_of tables.entry.connected P) self.checkpoint.minimum (state_of P.old.order self.checkpoint)) result workspace.new }
-        ensures trail { Trail result.checkpoint.path result.checkpoint.depth trail.new workspace.new }
+        ensures trail { OnTrail result.checkpoint.path result.checkpoint.depth trail.new workspace.new }
     {
         let minimum = self.checkpoint.minimum;
         let steps = self.checkpoint.steps + 1;
@@ -334,14 +328,14 @@ impl Walk {
 pub fn start(
     checkpoint: Checkpoint,
     tables: Tables<'_>,
-    trail: &mut [usize; MAX_ORDER],
+    trail: &mut Trail,
     workspace: &mut [u64],
 ) -> Walk
     requires in_bounds { InBounds checkpoint.path checkpoint.depth (size (take checkpoint.depth checkpoint.path)) workspace.old }
     requires lengths { (length checkpoint.incumbent ≡ 64) × (length trail.old ≡ 64) }
     ensures starts { (connected : Bool) (P : Problem) → Lends P tables.entry → InShape connected P checkpoint
         → Words P checkpoint.path 0 workspace.old → Starts connected P checkpoint result workspace.new }
-    ensures trail { Trail checkpoint.path checkpoint.depth trail.new workspace.new }
+    ensures trail { OnTrail checkpoint.path checkpoint.depth trail.new workspace.new }
 {
     let depth = checkpoint.depth;
     let cutoff = if checkpoint.holds {
@@ -371,11 +365,11 @@ pub fn run(
     walk: Walk,
     tables: Tables<'_>,
     budget: u64,
-    trail: &mut [usize; MAX_ORDER],
+    trail: &mut Trail,
     workspace: &mut [u64],
 ) -> Walk
     requires { CountFits walk.checkpoint budget × Resumes tables walk workspace.old
-        × Trail walk.checkpoint.path walk.checkpoint.depth trail.old workspace.old }
+        × OnTrail walk.checkpoint.path walk.checkpoint.depth trail.old workspace.old }
     ensures { (P : Problem) → Lends P tables.entry → Ready tables.entry.connected P walk workspace.old
         → Arrives tables.entry.connected P walk.checkpoint.minimum
         (visits (search_of tables.entry.connected P) walk.checkpoint.minimum budget (state_of P.old.order walk.checkpoint)) result workspace.new }
@@ -396,10 +390,11 @@ pub fn run(
 }
 
 // The words of the path, from those of the root, and its trail.
+#[tactic(auto, using(crate::proofs::NodeWords::open_rows_max, crate::proofs::NodeWords::size_take_max, crate::proofs::NodeWords::entry_max))]
 pub fn rebuild(
     tables: Tables<'_>,
     path: &[u8; MAX_ORDER],
-    trail: &mut [usize; MAX_ORDER],
+    trail: &mut Trail,
     workspace: &mut [u64],
     depth: usize,
 )
@@ -408,14 +403,18 @@ pub fn rebuild(
     ensures words { (P : Problem) → LendsEdges P tables.entry → depth ≤ P.old.order
         → Reached (rules_of P) (take depth path.now) → Words P path.now 0 workspace.old
         → Words P path.now depth workspace.new }
-    ensures trail { Trail path.now depth trail.new workspace.new }
+    ensures trail { OnTrail path.now depth trail.new workspace.new }
 {
     let mut pairs = 0;
     for row in 0..depth {
         let value = path[row];
         if value != UNMAPPED {
             let later = words::count_open(workspace, row + 1, pairs);
-            trail[pairs] = LATER * later + MAX_ORDER * row + value as usize;
+            trail[pairs] = Pair {
+                row: OldVertex(row),
+                value: NewVertex(value as usize),
+                later,
+            };
             words::refine(
                 tables,
                 workspace,

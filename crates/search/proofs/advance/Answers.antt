@@ -1,6 +1,6 @@
 -- `search::advance` meets its contract: the words of the checkpoint's path are rebuilt from those of the root, the visits are made, and the
 -- ceiling there is that of the walk (`AdvancedCall`). Assumes nothing.
-use mathlib.Core.Path.{◌≡◌, refl, sym, ◌∙◌}
+use mathlib.Core.Path.{◌≡◌, refl, ◌∙◌}
 use native.Mathlib.Omega.{arith}
 use borrow.Author.Rules.{rules}
 use lib.ListN.{length}
@@ -26,21 +26,6 @@ given s =
       path_long = search rules;
       incumbent_long = search rules;
     }
-
-pub fill_masks-requires : goal.fill_masks-requires
-fill_masks-requires c =
-    let sound = c.requires.sound_problem in
-    (sound.new_sound.edges_length, refl, sound.new_sound.order_max)
-
-pub root_words-requires : goal.root_words-requires
-root_words-requires c =
-    let pre = c.requires in
-    (pre.sound_problem.old_sound.order_max, omega (arith, pre.workspace_len.0))
-
-pub all_first-first-requires : goal.all_first-first-requires
-all_first-first-requires c =
-    let old_sound = c.requires.sound_problem.old_sound in
-    (old_sound.edges_length, old_sound.order_max)
 
 -- the workspace keeps its length
 root_whole : (c : After-root_words) → length c.root_words.new.workspace ≡ 4160
@@ -72,7 +57,7 @@ start-start-requires c =
     let at = goal.at.start-start-requires c in
     let g = given at.Start in record {
       in_bounds = call_bounds g c.fill_masks.ensures (omega (arith, root_whole at.After-root_words));
-      lengths = (g.incumbent_long, refl);
+      lengths = (g.incumbent_long, c.no_pairs-trail.ensures);
     }
 
 pub run-end-requires : goal.run-end-requires
@@ -88,13 +73,6 @@ ceiling-top-requires c =
     let at = goal.at.ceiling-top-requires c in
     let ready = (made at.After-run-end (started at.After-start-start).ready).ready in
     record { in_bounds = ready_in_bounds (call_setting c.requires.sound_problem c.fill_masks.ensures) ready; bound_bound = ready.small }
-
-pub clear_words-requires : goal.clear_words-requires
-clear_words-requires c = omega (arith, ceiling_whole (goal.at.clear_words-requires c).After-ceiling-top)
-
-pub shape_of-workspace : goal.shape_of-workspace
-shape_of-workspace c =
-    c.clear_words.auto.workspace ∙ ceiling_whole (goal.at.shape_of-workspace c).After-ceiling-top ∙ sym c.requires.workspace_len.0
 
 pub returns : goal.returns
 returns c =

@@ -33,10 +33,6 @@ returns-then-not-count_fits c =
     call_count a.connected (lent c.args.problem) a.checkpoint a.budget a.workspace.now (told_passed (goal.at.returns-then-not-count_fits c).In_default) c.if-workspace-lt-WORDS.false
     (sym c.count_fits.ensures ∙ c.if-not-count_fits.true)
 
-pub slice_bounds-advance-end-2 : goal.slice_bounds-advance-end-2
-slice_bounds-advance-end-2 c =
-    sym (length-take-le 4160 c.args.workspace.now c.if-workspace-lt-WORDS.false)
-
 pub advance-requires : goal.advance-requires
 advance-requires c =
     let fine = passes_shape c.args.connected (lent c.args.problem) c.args.checkpoint (told_passed (goal.at.advance-requires c).In_default) in record {

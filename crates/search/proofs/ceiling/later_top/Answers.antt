@@ -3,14 +3,10 @@ use Prim.Native.Nat.{◌+◌, ◌-◌}
 use native.Mathlib.Omega.{arith}
 use lib.ListN.{take}
 use Rattle.mapping.specs.Common.{size}
-use Rattle.search.proofs.NodeWords.{open_rows_max, size_take_max, entry_max}
-use Rattle.search.proofs.LaterTop.{levels_first, level_left_out, level_pairs, level_counted, level_skipped, levels_all}
+use Rattle.search.proofs.NodeWords.{size_take_max, entry_max}
+use Rattle.search.proofs.LaterTop.{level_left_out, level_pairs, level_counted, level_skipped, levels_all}
 use Rattle.search.proofs.ceiling.later_top.Goals as goal
 use Rattle.search.proofs.ceiling.later_top.Goals.{Then-last}
-
-pub loop-row-init : goal.loop-row-init
-loop-row-init c =
-    levels_first c.requires c.args.least
 
 -- a level with a pair has one pair more than its node
 pairs_left : (c : Then-last) → c.loop-row.left ≡ size (take (c.loop-row.row - 1) c.args.path.now) + 1
@@ -19,23 +15,6 @@ pairs_left c =
 
 pub overflow_sub-left : goal.overflow_sub-left
 overflow_sub-left c = omega (arith, pairs_left c)
-
-pub overflow_add-limit : goal.overflow_add-limit
-overflow_add-limit c =
-    omega (arith, pairs_left c, c.requires, size_take_max c.args.path.now (c.loop-row.row - 1))
-
-pub count_open-requires : goal.count_open-requires
-count_open-requires c =
-    omega (arith, pairs_left (goal.at.count_open-requires c).Then-last, c.requires, c.loop-row.invariant.kept.words, size_take_max c.args.path.now (c.loop-row.row - 1))
-
-pub overflow_add-limit-then-last : goal.overflow_add-limit-then-last
-overflow_add-limit-then-last c =
-    let few = open_rows_max (c.loop-row.row - 1) (c.loop-row.left - 1) c.loop-row.workspace in
-    omega (arith, pairs_left (goal.at.overflow_add-limit-then-last c).Then-last, c.requires, c.count_open.ensures, size_take_max c.args.path.now (c.loop-row.row - 1))
-
-pub overflow_cast-last : goal.overflow_cast-last
-overflow_cast-last c =
-    omega (arith, entry_max c.requires (c.loop-row.row - 1) (omega arith) c.if-last.true)
 
 pub row_top-above-requires : goal.row_top-above-requires
 row_top-above-requires c =

@@ -7,16 +7,9 @@ use Rattle.std.specs.Prelude.{Some}
 use Rattle.bitset.proofs.LeastBelow.{least_above_member}
 use Rattle.search.specs.Words.{level_word, meet_rows}
 use Rattle.search.proofs.Levels.{same_none, same_more, open_rows_same, meet_rows_same}
-use Rattle.search.proofs.NodeWords.{open_rows_max, meet_rows_max}
 use Rattle.search.proofs.RowTop.{row_first, row_more, row_all}
 use Rattle.search.proofs.ceiling.row_top.Goals as goal
 use Rattle.search.proofs.ceiling.row_top.Goals.{After-refine-kept, In-Some}
-
-pub overflow_add-top-2 : goal.overflow_add-top-2
-overflow_add-top-2 c =
-    let a = c.args in
-    let few = open_rows_max (a.row.0 + 1) a.pairs a.workspace.now in
-    omega (arith, c.requires, c.count_open-open.ensures)
 
 pub loop-v-init : goal.loop-v-init
 loop-v-init c =
@@ -46,12 +39,6 @@ counted : (c : After-refine-kept) → c.refine-kept.result ≡ (let a = c.args i
 counted c =
     let a = c.args in
     (c.refine-kept.ensures.whole (omega arith)).0 ∙ meet_rows_same c.loop-v.invariant.1 a.tables.edges.now a.tables.masks.now a.row.0 a.pairs c.in-Some.v (le_refl _)
-
-pub overflow_add-pairs-in-Some : goal.overflow_add-pairs-in-Some
-overflow_add-pairs-in-Some c =
-    let a = c.args in
-    let few = meet_rows_max a.tables.edges.now a.tables.masks.now a.row.0 a.pairs c.in-Some.v a.workspace.now in
-    omega (arith, c.requires, counted (goal.at.overflow_add-pairs-in-Some c).After-refine-kept)
 
 pub loop-v-smaller : goal.loop-v-smaller
 loop-v-smaller c =

@@ -1,6 +1,6 @@
 -- `search::walk::descend` meets its contract: the place takes the least member of the next row's word, or 255 (`FirstChild`), and a pair is added
 -- to the trail (`LastPairs`). Assumes nothing.
-use mathlib.Core.Path.{◌≡◌, sym, ap, ◌∙◌}
+use mathlib.Core.Path.{◌≡◌, refl, sym, ap, ◌∙◌}
 use Prim.Native.Nat.{◌+◌, ◌-◌}
 use native.Mathlib.Omega.{arith}
 use Rattle.bitset.specs.Least.{least_member}
@@ -38,7 +38,8 @@ returns-in-Some c =
     let level : a.pairs + 1 - 1 ≡ a.pairs = omega arith in
     let moved = c.move_down.ensures in record {
       child = λ P sound inner node words. child_taken sound inner node words found moved;
-      trail = λ count trail. trail_down c.requires.numbers.1 c.requires.depth_bound.0 count trail small moved (omega (arith, later));
+      trail = λ count trail.
+          trail_down c.requires.numbers.1 c.requires.depth_bound.0 count trail small moved (record { row_is = refl; value_is = refl; later_is = omega (arith, later) });
       later = λ n exact. open_after (omega (arith, small)) (rw level (omega (arith, later)));
       last = moved_last_is moved (omega (arith, c.requires.depth_bound.0)) (λ e. absurd (omega arith));
     }

@@ -1,11 +1,8 @@
 use mathlib.Core.Path.{◌∙◌}
 use native.Mathlib.Omega.{arith}
-use Rattle.search.proofs.MovedPath.{moved_none, moved_more, moved_all}
+use Rattle.search.proofs.MovedPath.{moved_more}
 use Rattle.search.proofs.walk.move_down.Goals as goal
 use Rattle.search.proofs.walk.move_down.Goals.{else-numbers-i, then-numbers-i}
-
-pub loop-i-init : goal.loop-i-init
-loop-i-init c = moved_none c.requires.1
 
 pub loop-i-preserved : goal.loop-i-preserved
 loop-i-preserved c =
@@ -21,6 +18,3 @@ loop-i-preserved c =
         rest = λ h. w.entry-is ∙ same ∙ c.requires.2 l.i (omega arith) (omega arith);
       }
     ])
-
-pub returns : goal.returns
-returns c = moved_all (omega arith) c.loop-i.invariant

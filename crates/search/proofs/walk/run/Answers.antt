@@ -7,10 +7,6 @@ use Rattle.search.proofs.RunTurn.{RanTo, ran_none, ran_more, visited_steps, Ends
 use Rattle.search.proofs.walk.run.Goals as goal
 use Rattle.search.proofs.walk.run.Goals.{After-visit-at, Joined-walk, else-walk, then-walk}
 
-pub overflow_add-last : goal.overflow_add-last
-overflow_add-last c =
-    omega (arith, c.requires.0 (c.if-walk.false))
-
 -- where the loop ends, before it
 ends : (c : Joined-walk)
     → (let a = c.args in EndsAt a.budget a.walk a.walk c.if-walk.last)
@@ -26,12 +22,6 @@ pub loop-at-init : goal.loop-at-init
 loop-at-init c =
     (ends (goal.at.loop-at-init c).Joined-walk, ran_none c.requires.1, c.requires.2)
 
-pub visit-at-requires : goal.visit-at-requires
-visit-at-requires c =
-    let inv = c.loop-at.invariant in
-    let busy = goes_on inv.0 c.loop-at-test.true in
-    record { resumes = inv.1.resumes; goes_on = (busy, omega (arith, c.loop-at-test.true, inv.0.busy busy), inv.2) }
-
 -- the walk was not finished before it
 was_busy : (c : After-visit-at) → c.loop-at.at.checkpoint.finished ≡ false
 was_busy c = goes_on c.loop-at.invariant.0 c.loop-at-test.true
@@ -40,10 +30,6 @@ was_busy c = goes_on c.loop-at.invariant.0 c.loop-at-test.true
 stepped : (c : After-visit-at) → c.visit-at.result.checkpoint.steps ≡ c.loop-at.at.checkpoint.steps + 1
 stepped c =
     visited_steps (was_busy c) c.loop-at.invariant.1.resumes c.visit-at.ensures.visited
-
-pub loop-at-smaller-then-at : goal.loop-at-smaller-then-at
-loop-at-smaller-then-at c =
-    omega (arith, c.loop-at-test.true)
 
 -- one visit more
 ran : (c : After-visit-at)

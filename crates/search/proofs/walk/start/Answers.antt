@@ -1,12 +1,11 @@
 -- `search::walk::start` meets its contract: the words of the path are rebuilt, and the pairs, the cutoff and the bound are those of
 -- the checkpoint's node (`ResumedWalk`, `AdvancedCall`). Assumes nothing.
-use mathlib.Core.Path.{◌≡◌, refl, sym, ap, ◌∙◌}
+use mathlib.Core.Path.{◌≡◌, refl, ap, ◌∙◌}
 use mathlib.Core.Logic.{inl, inr}
 use mathlib.Core.List.{List}
 use Prim.Native.Nat.{ℕ, ◌+◌, ◌≤◌}
 use native.Mathlib.Omega.{arith}
 use lib.ListN.{take, length-take}
-use lib.Seq.{length-take-le}
 use Rattle.problem.specs.Problem.{Problem}
 use Rattle.search_tree.specs.Walk.{cutoff}
 use Rattle.checkpoint.specs.Checkpoints.{state_of}
@@ -19,23 +18,10 @@ use Rattle.search.proofs.ResumedWalk.{cutoff_counted}
 use Rattle.search.proofs.walk.start.Goals as goal
 use Rattle.search.proofs.walk.start.Goals.{After-mapping_size-pairs, else-checkpoint, then-checkpoint}
 
-pub slice_bounds-mapping_size-end : goal.slice_bounds-mapping_size-end
-slice_bounds-mapping_size-end c =
-    sym (length-take-le c.args.tables.order c.args.checkpoint.incumbent (omega (arith, c.requires.lengths, c.args.tables.sizes)))
-
 pub overflow_add-cutoff : goal.overflow_add-cutoff
 overflow_add-cutoff c =
     let a = c.args in
     omega (arith, c.mapping_size.ensures, size_max (take a.tables.order a.checkpoint.incumbent), length-take a.tables.order a.checkpoint.incumbent)
-
-pub slice_bounds-mapping_size-end-2 : goal.slice_bounds-mapping_size-end-2
-slice_bounds-mapping_size-end-2 c =
-    let bounds = c.requires.in_bounds in
-    sym (length-take-le c.args.checkpoint.depth c.args.checkpoint.path (omega (arith, bounds.path_length, bounds.depth_max)))
-
-pub rebuild-requires : goal.rebuild-requires
-rebuild-requires c =
-    record { in_bounds = c.requires.in_bounds; trail_len = c.requires.lengths.1 }
 
 -- the cutoff counted is the state's
 cutoff_is : (c : After-mapping_size-pairs) {P : Problem} {edges masks : List ℕ}

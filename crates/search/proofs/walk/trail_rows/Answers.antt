@@ -8,7 +8,7 @@ loop-before-init c = λ path depth ws long deep counted t. rw counted (gathered_
 
 pub loop-before-preserved : goal.loop-before-preserved
 loop-before-preserved c = λ path depth ws long deep counted t.
-    rw c.with-set.ensures (gathered_more path depth long deep t (c.loop-before.invariant path depth ws long deep counted t) c.loop-before-test.true refl)
+    rw c.with-set.ensures (gathered_more path depth long deep t _ (c.loop-before.invariant path depth ws long deep counted t) c.loop-before-test.true refl)
 
 pub returns : goal.returns
 returns c = λ path depth ws long deep counted t.

@@ -4,11 +4,11 @@ use mathlib.Core.List.{List}
 use Prim.Native.Nat.{ℕ, ◌≤◌}
 use lib.ListN.{length, take}
 use Rattle.mapping.specs.Common.{size}
-use Rattle.search.specs.Walking.{Trail}
+use Rattle.search.specs.Walking.{OnTrail}
 use Rattle.search.proofs.TrailRows.{Gathered}
 use Rattle.search.proofs.walk.trail_rows.Given as goal
 
 abbrev pub invariant-loop-before : goal.invariant-loop-before
 invariant-loop-before l =
-    (path : List ℕ) (depth : ℕ) (ws : List ℕ) → length path ≡ 64 → depth ≤ 64 → l.pairs ≡ size (take depth path) → Trail path depth l.trail ws
+    (path : List ℕ) (depth : ℕ) (ws : List ℕ) → length path ≡ 64 → depth ≤ 64 → l.pairs ≡ size (take depth path) → OnTrail path depth l.trail ws
     → Gathered path depth l.before l.set

@@ -54,17 +54,6 @@ last_taken {p} placed out = go (dec_lt 0 p.depth)
         let own = entry_max bounds (p.depth - 1) (omega arith) mapped in
         record { deep = h; inside = omega (arith, bounds.depth_max); value = omega (arith, own, is); before = pairs_before bounds h mapped }
 
-pub overflow_add-result : goal.overflow_add-result
-overflow_add-result c =
-    let p = c.args.place in
-    omega (
-      arith,
-      pairs_max c.requires.bounds,
-      c.requires.bounds.depth_max,
-      c.requires.open_is.left_out c.if-place-eq-UNMAPPED.true,
-      open_rows_max p.depth p.pairs c.args.workspace.now,
-    )
-
 pub returns-then-place-eq-UNMAPPED : goal.returns-then-place-eq-UNMAPPED
 returns-then-place-eq-UNMAPPED c =
     let p = c.args.place in
@@ -81,9 +70,6 @@ returns-then-place-eq-UNMAPPED c =
 -- what is known here of the last row
 taken : (c : Else-place-eq-UNMAPPED) → LastTaken c.requires.path c.args.place
 taken c = last_taken c.requires c.if-place-eq-UNMAPPED.false
-
-pub overflow_sub-place : goal.overflow_sub-place
-overflow_sub-place c = (taken (goal.at.overflow_sub-place c).Else-place-eq-UNMAPPED).deep
 
 pub overflow_sub-place-2 : goal.overflow_sub-place-2
 overflow_sub-place-2 c = omega (arith, (taken (goal.at.overflow_sub-place-2 c).Else-place-eq-UNMAPPED).before)

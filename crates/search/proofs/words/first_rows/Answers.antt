@@ -31,9 +31,6 @@ module _ (edges : List ℕ) (row word r : ℕ) (inside : r < 64) (passed : Passe
   skipped null k after below out =
       ⊎_elim (λ (q : k ≡ r). rw q null) (λ less. passed k after less out) (eq-or-lt_of_le (omega arith))
 
-pub loop-r-init : goal.loop-r-init
-loop-r-init c = λ k after below. absurd (omega arith)
-
 pub loop-r-preserved : goal.loop-r-preserved
 loop-r-preserved c =
     let l = c.loop-r in
@@ -43,6 +40,3 @@ loop-r-preserved c =
       | then-many w ↦ rw (w.word-is, w.with-word.ensures) (added edges row l.word l.r c.loop-r-test.true l.invariant)
       | else-many+else-edges-from-ne0 w ↦ rw w.word-is (skipped edges row l.word l.r c.loop-r-test.true l.invariant w.if-edges-from-ne0.false)
     ]
-
-pub returns : goal.returns
-returns c r after h = c.loop-r.invariant r after (omega arith)

@@ -3,7 +3,7 @@
 use mathlib.Core.Path.{◌≡◌, refl, sym, ap, ◌∙◌}
 use Prim.Native.Nat.{◌+◌, ◌*◌, ◌<◌}
 use native.Mathlib.Omega.{arith}
-use lib.ListN.{get_or, length-set}
+use lib.ListN.{get_or}
 use Rattle.bitset.specs.Members.{difference_of}
 use Rattle.bitset.specs.Count.{size}
 use Rattle.bitset.proofs.CountBelow.{count_below_congr}
@@ -80,20 +80,6 @@ returns-then-kept-need c =
     let a = c.args in
     counted_few a.tables.edges.now a.tables.masks.now a.row.0 a.pairs a.value.0 a.workspace.now c.members_from-open.ensures refl
     (whole at.After-meet-near) (inner at.After-meet-near) c.requires.room (all_met at.After-meet_far-kept) c.if-kept-need.true
-
-pub overflow_add-workspace : goal.overflow_add-workspace
-overflow_add-workspace c = omega (arith, inner (goal.at.overflow_add-workspace c).After-meet-near)
-
-pub offset_bounds-workspace-pairs-2 : goal.offset_bounds-workspace-pairs-2
-offset_bounds-workspace-pairs-2 c = omega (arith, inner (goal.at.offset_bounds-workspace-pairs-2 c).After-meet-near)
-
-pub bounds-workspace-pairs-2 : goal.bounds-workspace-pairs-2
-bounds-workspace-pairs-2 c =
-    let at = goal.at.bounds-workspace-pairs-2 c in
-    omega (arith, inner at.After-meet-near, c.requires.room, (all_met at.After-meet_far-kept).words)
-
-pub shape_of-workspace : goal.shape_of-workspace
-shape_of-workspace c = simp length-set (all_met (goal.at.shape_of-workspace c).After-meet_far-kept).words
 
 pub returns : goal.returns
 returns c =

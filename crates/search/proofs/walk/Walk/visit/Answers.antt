@@ -19,7 +19,7 @@ retreat-place-requires c =
     (c.args.tables.numbers_are, b.path_length, c.requires.goes_on.2.places, b.room, pairs_small b)
 
 pub admitted-requires : goal.admitted-requires
-admitted-requires c = (c.requires.goes_on.2.places, pairs_small (resumes_in_bounds c.requires.resumes))
+admitted-requires c = (c.requires.goes_on.2.places, omega (arith, pairs_small (resumes_in_bounds c.requires.resumes)))
 
 pub overflow_add-cutoff : goal.overflow_add-cutoff
 overflow_add-cutoff c = omega (arith, pairs_small (resumes_in_bounds c.requires.resumes))
