@@ -1,4 +1,4 @@
--- The tables of a call's own, into which both graphs are read, before it reads (01, "Tables: 64 kind bytes and 4,096 link bytes"; 02, U6).
+-- The tables of a call's own, all 0, into which it reads both graphs (01, "Tables: 64 kind bytes and 4,096 link bytes"; 02, U6).
 use Rattle.std.specs.Prelude.{◌≡◌, replicate}
 use Rattle.c_api.specs.declared.graphs.Graphs.{Graphs}
 

@@ -40,7 +40,7 @@ pub enum Fault {
 #[derive(Clone, Copy, Debug, PartialEq, Eq)]
 pub enum ReadError {
     Tables,
-    At(Fault, usize),
+    Faulty(Fault, usize),
 }
 
 impl Refusal for ReadError {
@@ -49,7 +49,7 @@ impl Refusal for ReadError {
     fn number(self) -> u8 {
         match self {
             ReadError::Tables => 10,
-            ReadError::At(fault, _) => match fault {
+            ReadError::Faulty(fault, _) => match fault {
                 Fault::Truncated => 1,
                 Fault::UnknownCommand => 2,
                 Fault::ZeroLabel => 3,
@@ -67,7 +67,7 @@ impl Refusal for ReadError {
     fn place(self) -> usize {
         match self {
             ReadError::Tables => 0,
-            ReadError::At(_, at) => at,
+            ReadError::Faulty(_, at) => at,
         }
     }
 }

@@ -38,7 +38,7 @@ fn print_read(
         }
         Err(error) => {
             print!(rt; ": {}", error.number())?;
-            if let ReadError::At(_, place) = error {
+            if let ReadError::Faulty(_, place) = error {
                 print!(rt; " at {place}")?;
             }
             println!(rt; ", left {labels_used} {edges_used}")

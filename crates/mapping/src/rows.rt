@@ -14,7 +14,7 @@ use super::{Checked, MappingError, NewVertex, OldVertex, UNMAPPED};
 use graph::MAX_ORDER;
 use problem::Problem;
 
-// The contracts below name only what a function reads: of the labels, the sets of vertices that agree with each row.
+// Of the labels nothing is read here but the sets of vertices that agree with each row.
 
 // The edges of v and v2 in the old graph, and of w and w2 in the new one.
 pub fn compare_edges<'a>(

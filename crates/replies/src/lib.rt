@@ -57,7 +57,7 @@ impl Reply {
         self.number
     }
 
-    // The reply to either.
+    // The reply to an answer, accepted or refused.
     pub fn of<E: Refusal>(answer: Result<usize, E>) -> Reply
         ensures { result ≡ reply_of (counted E.says answer) }
     {
