@@ -1,6 +1,6 @@
 // The mapping that is held, by a checkpoint or at the end of clique branching, stored and counted.
 
-ghost use Rattle.std.specs.Prelude.{◌≡◌, cond, ◌≤◌, length, take};
+ghost use Rattle.std.specs.Prelude.{◌≡◌, cond, ◌≤◌, length};
 ghost use Rattle.answers.specs.Output.{overwrite};
 ghost use Rattle.mapping.specs.Common.{size};
 
@@ -11,20 +11,12 @@ pub fn entries_held(holds: bool, order: usize) -> usize
     if holds { order } else { 0 }
 }
 
-// The first `k` entries of a list, to the front of `out`.
-fn put_front(list: &[u8], k: usize, out: &mut [u8])
-    requires { (k ≤ length list.now) × (k ≤ length out.old) }
-    ensures { out.new ≡ overwrite (take k list.now) out.old }
+// The entries, to the front of `out`, and how many of them are pairs.
+pub fn put_entries(entries: &[u8], out: &mut [u8]) -> u64
+    requires { length entries.now ≤ length out.old }
+    ensures size { result ≡ size entries.now }
+    ensures stored { out.new ≡ overwrite entries.now out.old }
 {
-    out[..k].copy_from_slice(&list[..k]);
-}
-
-// The same, and how many of them are pairs.
-pub fn put_entries(list: &[u8], k: usize, out: &mut [u8]) -> u64
-    requires { (k ≤ length list.now) × (k ≤ length out.old) }
-    ensures size { result ≡ size (take k list.now) }
-    ensures stored { out.new ≡ overwrite (take k list.now) out.old }
-{
-    put_front(list, k, out);
-    mapping::mapping_size(&list[..k]) as u64
+    out[..entries.len()].copy_from_slice(entries);
+    mapping::mapping_size(entries) as u64
 }

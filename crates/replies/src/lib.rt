@@ -225,7 +225,7 @@ fn read_checkpoint<'a>(
     let incumbent = checkpoint.incumbent;
     // a checkpoint that was loaded is not refused
     let ceiling = searched.answer.unwrap_or(0) as u64;
-    let size = held::put_entries(&incumbent, entries, mapping);
+    let size = held::put_entries(&incumbent[..entries], mapping);
     ReadReply {
         reply: Reply::accepted(
             checkpoint_saver::state_byte(checkpoint.finished, checkpoint.holds) as u64,
@@ -272,7 +272,7 @@ pub fn branch<'a>(problem: Problem<'a>, minimum: u8, mapping: &mut [u8]) -> Bran
                     size: 0,
                 };
             }
-            let size = held::put_entries(&entries, order, mapping);
+            let size = held::put_entries(&entries[..order], mapping);
             BranchReply {
                 reply: Reply::accepted(1),
                 size,
