@@ -1,5 +1,6 @@
 -- `replies::branch` meets its contract: what is held fits or is refused, any other answer is handed on (`CliqueReply`). Assumes nothing.
-use mathlib.Core.Path.{◌≡◌, ap, ◌∙◌}
+use mathlib.Core.Path.{◌≡◌, sym, ap, ◌∙◌}
+use lib.Seq.{length-take-le}
 use Rattle.std.specs.Prelude.{Ok, Some}
 use Rattle.problem.specs.Lent.{lent}
 use Rattle.replies.specs.CliqueReply.{no_mapping, clique_reply}
@@ -18,11 +19,14 @@ returns-then-mapping-order c =
     ∙ branch_short (lent c.args.problem) c.args.minimum c.branch-entries.result c.branch-entries.ensures _ (held (goal.at.returns-then-mapping-order c).In_Ok-Some-entries)
     c.args.mapping.now c.if-mapping-order.true
 
-pub put_entries-size-requires : goal.put_entries-size-requires
-put_entries-size-requires c = (
-  found_long (lent c.args.problem) c.args.minimum c.branch-entries.result c.branch-entries.ensures _ (held (goal.at.put_entries-size-requires c).In_Ok-Some-entries),
-  c.if-mapping-order.false,
-)
+pub slice_bounds-entries-end : goal.slice_bounds-entries-end
+slice_bounds-entries-end c =
+    found_long (lent c.args.problem) c.args.minimum c.branch-entries.result c.branch-entries.ensures _ (held (goal.at.slice_bounds-entries-end c).In_Ok-Some-entries)
+
+pub slice_bounds-put_entries-end : goal.slice_bounds-put_entries-end
+slice_bounds-put_entries-end c =
+    let long = found_long (lent c.args.problem) c.args.minimum c.branch-entries.result c.branch-entries.ensures _ (held (goal.at.slice_bounds-put_entries-end c).In_Ok-Some-entries) in
+    sym (length-take-le _ _ long)
 
 pub returns-else-mapping-order : goal.returns-else-mapping-order
 returns-else-mapping-order c =

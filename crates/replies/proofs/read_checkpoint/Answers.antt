@@ -21,14 +21,6 @@ returns-then-mapping-entries c =
     ap (not_read_out c.args.mapping.now) c.refused.ensures
     ∙ read_short c.args.connected (lent c.args.problem) c.args.checkpoint c.args.mapping.now _ c.entries_held-entries.ensures c.requires (incumbent_long (goal.at.returns-then-mapping-entries c).Start) c.if-mapping-entries.true
 
-pub slice_bounds-put_entries-end : goal.slice_bounds-put_entries-end
-slice_bounds-put_entries-end c = sym (incumbent_long (goal.at.slice_bounds-put_entries-end c).Start)
-
-pub put_entries-size-requires : goal.put_entries-size-requires
-put_entries-size-requires c =
-    let few : c.entries_held-entries.result ≤ length c.args.checkpoint.incumbent =
-    omega (arith, c.entries_held-entries.ensures, incumbent_few (lent c.args.problem).old.order c.args.checkpoint.holds, c.requires, incumbent_long (goal.at.put_entries-size-requires c).Start) in
-    (few, c.if-mapping-entries.false)
 
 pub returns : goal.returns
 returns c =
