@@ -284,19 +284,17 @@ impl Walk {
         let mut incumbent = self.checkpoint.incumbent;
         let mut cutoff = self.cutoff;
         let mut path = self.checkpoint.path;
-        // as the value of the `if` the place would go through memory, for 16 instructions a visit
-        let place;
-        if self.bound < cutoff {
-            place = retreat(tables.numbers, &mut path, trail, workspace, pairs);
+        let place = if self.bound < cutoff {
+            retreat(tables.numbers, &mut path, trail, workspace, pairs)
         } else if depth == tables.order {
             if admitted(tables, trail, pairs) {
                 holds = true;
                 incumbent = path;
                 cutoff = pairs + 1;
             }
-            place = retreat(tables.numbers, &mut path, trail, workspace, pairs);
+            retreat(tables.numbers, &mut path, trail, workspace, pairs)
         } else {
-            place = descend(
+            descend(
                 tables.numbers,
                 &mut path,
                 trail,
@@ -304,8 +302,8 @@ impl Walk {
                 depth,
                 pairs,
                 self.bound - pairs,
-            );
-        }
+            )
+        };
         let bound = upper_bound(tables, workspace, place, cutoff);
         Walk {
             checkpoint: Checkpoint {
