@@ -84,12 +84,12 @@ pub fn entry(number: u8, depth: u8, before: u8, last: u8) -> u8
     ensures { (number < depth → result ≡ before) × (number ≡ depth → result ≡ last) × (depth < number → result ≡ 0) }
 {
     if number < depth {
-        return before;
+        before
+    } else if number == depth {
+        last
+    } else {
+        0
     }
-    if number == depth {
-        return last;
-    }
-    0
 }
 
 // The path becomes that of `depth` entries which ends in `last` and is the same before it. Entry by entry, so that it can be held in registers and
@@ -109,11 +109,8 @@ pub fn move_down(numbers: &[u8; MAX_ORDER], path: &mut [u8; MAX_ORDER], depth: u
     ensures { Moved path.old depth last path.new }
 {
     for i in 0..MAX_ORDER {
-        let mut entry = path[i];
-        if numbers[i] == depth {
-            entry = last;
-        }
-        path[i] = entry;
+        // stored in either case: with the store in the `if` the compiler goes byte by byte
+        path[i] = if numbers[i] == depth { last } else { path[i] };
     }
 }
 
