@@ -354,8 +354,7 @@ pub fn start(
     }
 }
 
-// As many visits as the budget says, fewer only if the search finishes. One way out: with more of them the compiler would keep the two arrays in
-// memory.
+// As many visits as the budget says, fewer only if the search finishes.
 pub fn run(
     walk: Walk,
     tables: Tables<'_>,
@@ -370,16 +369,11 @@ pub fn run(
         (visits (search_of tables.entry.connected P) walk.checkpoint.minimum budget (state_of P.old.order walk.checkpoint)) result workspace.new }
 {
     let mut at = walk;
-    let mut last = if walk.checkpoint.finished {
-        walk.checkpoint.steps
-    } else {
-        walk.checkpoint.steps + budget
-    };
-    while at.checkpoint.steps < last {
-        at = at.visit(tables, trail, workspace);
+    for _made in 0..budget {
         if at.checkpoint.finished {
-            last = at.checkpoint.steps;
+            break;
         }
+        at = at.visit(tables, trail, workspace);
     }
     at
 }
