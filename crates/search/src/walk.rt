@@ -233,10 +233,11 @@ pub fn retreat(
 pub fn neighbours_for(connected: bool, edges: &[u8]) -> [u64; MAX_ORDER]
     ensures { connected ≡ true → Neighbours edges.now result }
 {
-    if !connected {
-        return [0u64; MAX_ORDER];
+    if connected {
+        connected::neighbours(edges)
+    } else {
+        [0u64; MAX_ORDER]
     }
-    connected::neighbours(edges)
 }
 
 // The rows of all `pairs` pairs on the trail, as a set.
