@@ -1,8 +1,6 @@
 -- The least number that passes a test, the least member of a set, and the set without it.
-use Rattle.std.specs.Prelude.{◌≡◌, Bool, true, false, cond, ◌&&◌, not, ℕ, zero, suc, ◌<◌, ltb, eqb}
+use Rattle.std.specs.Prelude.{◌≡◌, Bool, true, false, cond, ◌&&◌, not, ℕ, zero, suc, ◌<◌, ltb, eqb, Option, Some, None}
 use Rattle.bitset.specs.Members.{member, set_of}
-use Rattle.std.specs.Prelude.{Option}
-use Rattle.std.specs.Prelude.{Some, None}
 
 -- the first answer, or the other where the first is None
 abbrev pub or_else : Option ℕ → Option ℕ → Option ℕ

@@ -10,3 +10,4 @@ pub mod ByteRuns
 pub mod ByteCalls
 pub mod BroughtDescent
 pub mod DescentBytes
+pub mod GraphsRead

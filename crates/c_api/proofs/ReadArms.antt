@@ -10,7 +10,8 @@ use Rattle.mapping.specs.Check.{check_outcome}
 use Rattle.problem_reader.specs.ProblemReading.{ReadOutcome, read, refusal, read_problem}
 use Rattle.checkpoint.specs.declared.Checkpoint.{Checkpoint}
 use Rattle.checkpoint.specs.Checkpoints.{fresh_checkpoint}
-use Rattle.checkpoint_saver.specs.declared.SaveAnswer.{SaveAnswer}
+use Rattle.std.specs.Prelude.{Result}
+use Rattle.checkpoint_saver.specs.declared.SaveError.{SaveError}
 use Rattle.checkpoint_saver.specs.Answers.{save_answer}
 use Rattle.checkpoint_saver.specs.Saving.{saving_of, saving}
 use Rattle.descend.specs.Call.{start_call}
@@ -47,7 +48,7 @@ module _ (old new substitutes : List ℕ) where
         → wrote t buffer ≡ begin_on first (read_problem old new) substitutes connected buffer
     begin_refused t a p e = ap (λ (x : Reply). wrote x buffer) p ∙ ap (λ (o : ReadOutcome). begin_on first o substitutes connected buffer) e
 
-    begin_read : (P : Problem) → read P ≡ read_problem old new → (t : Reply) (s : SaveAnswer) (after : List ℕ)
+    begin_read : (P : Problem) → read P ≡ read_problem old new → (t : Reply) (s : Result ℕ SaveError) (after : List ℕ)
         → t ≡ reply_of (save_answer s) → saving_of s after ≡ saving connected (substituting substitutes P) (first (substituting substitutes P)) buffer
         → wrote t after ≡ begin_on first (read_problem old new) substitutes connected buffer
     begin_read P e t s after p q =
@@ -59,7 +60,7 @@ module _ (old new substitutes : List ℕ) where
     unfolding starting
     start_refused = begin_refused connected (λ (P : Problem). fresh_checkpoint minimum) buffer
 
-    pub start_read : (P : Problem) → read P ≡ read_problem old new → (t : Reply) (s : SaveAnswer) (after : List ℕ) (c : Checkpoint)
+    pub start_read : (P : Problem) → read P ≡ read_problem old new → (t : Reply) (s : Result ℕ SaveError) (after : List ℕ) (c : Checkpoint)
         → t ≡ reply_of (save_answer s) → saving_of s after ≡ saving connected (substituting substitutes P) c buffer → c ≡ fresh_checkpoint minimum
         → wrote t after ≡ starting old new substitutes connected minimum buffer
     unfolding starting
@@ -73,7 +74,7 @@ module _ (old new substitutes : List ℕ) where
     unfolding descend_starting
     descend_start_refused = begin_refused connected (λ (P : Problem). (start_call P floor).checkpoint) buffer
 
-    pub descend_start_read : (P : Problem) → read P ≡ read_problem old new → (t : Reply) (s : SaveAnswer) (after : List ℕ)
+    pub descend_start_read : (P : Problem) → read P ≡ read_problem old new → (t : Reply) (s : Result ℕ SaveError) (after : List ℕ)
         → t ≡ reply_of (save_answer s) → saving_of s after ≡ save_start connected (substituting substitutes P) floor buffer
         → wrote t after ≡ descend_starting old new substitutes connected floor buffer
     unfolding descend_starting

@@ -10,3 +10,4 @@ pub mod Branching
 pub mod Moves
 pub mod Wrote
 pub mod Version
+pub mod Graphs

@@ -2,6 +2,8 @@
 
 #![tactic(auto)]
 
+mod graphs;
+
 ghost use Rattle.std.specs.Prelude.{◌≡◌};
 ghost use Rattle.answers.specs.Output.{fill};
 ghost use Rattle.reasons.specs.Reasons.{reason_text};
@@ -23,9 +25,9 @@ ghost use Rattle.c_api.specs.Wrote.{wrote, wrote_by};
 ghost use Rattle.c_api.specs.Version.{version};
 
 use checkpoint::Checkpoint;
-use graph::{EDGE_BYTES, Label, MAX_ORDER};
 use graph_reader::Edition;
-use problem_reader::ProblemRead;
+use graphs::Graphs;
+use replies::Reply;
 
 // 1.0.0: major, minor and patch, a byte each for the last two.
 const VERSION: u32 = 65536;
@@ -36,8 +38,7 @@ pub extern "C" fn golfcedar_check_graph(graph: &[u8], value: &mut u64) -> u32
     ensures { reply result value.new ≡ checking_graph graph.now }
 {
     let reply = inputs::judge_graph(graph);
-    *value = reply.value;
-    reply.number
+    reply.tell(value)
 }
 
 // Whether two graphs and a list are ones, which every call on them tests first, and which of the three is not.
@@ -53,9 +54,8 @@ pub extern "C" fn golfcedar_check_problem(
         ≡ judging old_graph.now new_graph.now substitutes.now }
 {
     let judgement = inputs::judge(old_graph, new_graph, substitutes);
-    *value = judgement.reply.value;
     *about = judgement.about;
-    judgement.reply.number
+    judgement.reply.tell(value)
 }
 
 // The text of a refusal's number.
@@ -63,9 +63,8 @@ pub extern "C" fn golfcedar_check_problem(
 pub extern "C" fn golfcedar_reason(number: u32, text: &mut [u8], value: &mut u64) -> u32
     ensures { wrote (reply result value.new) text.new ≡ wrote_by (fill (reason_text number) text.old) }
 {
-    let reply = replies::of_reason(reasons::reason(number, text));
-    *value = reply.value;
-    reply.number
+    let reply = Reply::of(reasons::reason(number, text));
+    reply.tell(value)
 }
 
 // The library's version.
@@ -81,9 +80,8 @@ pub extern "C" fn golfcedar_version() -> u32
 pub extern "C" fn golfcedar_to_edition_2(graph: &[u8], out: &mut [u8], value: &mut u64) -> u32
     ensures { wrote (reply result value.new) out.new ≡ moving_to Edition.One Edition.Two graph.now out.old }
 {
-    let reply = replies::of_move(graph_writer::to_edition_2(graph, out));
-    *value = reply.value;
-    reply.number
+    let reply = Reply::of(graph_writer::to_edition_2(graph, out));
+    reply.tell(value)
 }
 
 // Moves graph bytes of edition 2 back to edition 1, where every label fits a byte.
@@ -91,9 +89,8 @@ pub extern "C" fn golfcedar_to_edition_2(graph: &[u8], out: &mut [u8], value: &m
 pub extern "C" fn golfcedar_to_edition_1(graph: &[u8], out: &mut [u8], value: &mut u64) -> u32
     ensures { wrote (reply result value.new) out.new ≡ moving_to Edition.Two Edition.One graph.now out.old }
 {
-    let reply = replies::of_move(graph_writer::to_edition_1(graph, out));
-    *value = reply.value;
-    reply.number
+    let reply = Reply::of(graph_writer::to_edition_1(graph, out));
+    reply.tell(value)
 }
 
 // Whether the mapping is a common subgraph of the two graphs, under the substitutes.
@@ -109,35 +106,18 @@ pub extern "C" fn golfcedar_check_mapping(
     ensures { checked (reply result value.new) earlier.new
         ≡ checking_mapping old_graph.now new_graph.now substitutes.now mapping.now }
 {
-    let mut old_labels = [0 as Label; MAX_ORDER];
-    let mut old_edges = [0u8; EDGE_BYTES];
-    let mut new_labels = [0 as Label; MAX_ORDER];
-    let mut new_edges = [0u8; EDGE_BYTES];
-    match problem_reader::read_problem(
-        old_graph,
-        new_graph,
-        &mut old_labels,
-        &mut old_edges,
-        &mut new_labels,
-        &mut new_edges,
-    ) {
-        ProblemRead::Refused(refusal) => {
-            let reply = replies::of_read(refusal);
-            *value = reply.value;
+    let mut graphs = Graphs::empty();
+    match graphs.read(old_graph, new_graph) {
+        Err(error) => {
+            let reply = Reply::refused(error);
             *earlier = 0;
-            reply.number
+            reply.tell(value)
         }
-        ProblemRead::Orders(old_order, new_order) => {
-            let checked = replies::of_mapping(mapping::check_mapping(
-                [old_order, new_order],
-                [&old_labels, &new_labels],
-                [&old_edges, &new_edges],
-                substitutes,
-                mapping,
-            ));
-            *value = checked.reply.value;
+        Ok(orders) => {
+            let problem = graphs.problem(orders, substitutes);
+            let checked = replies::of_mapping(mapping::check_mapping(problem, mapping));
             *earlier = checked.earlier;
-            checked.reply.number
+            checked.reply.tell(value)
         }
     }
 }
@@ -156,36 +136,22 @@ pub extern "C" fn golfcedar_start(
     ensures { wrote (reply result value.new) checkpoint.new
         ≡ starting old_graph.now new_graph.now substitutes.now (asked connected) minimum checkpoint.old }
 {
-    let mut old_labels = [0 as Label; MAX_ORDER];
-    let mut old_edges = [0u8; EDGE_BYTES];
-    let mut new_labels = [0 as Label; MAX_ORDER];
-    let mut new_edges = [0u8; EDGE_BYTES];
-    match problem_reader::read_problem(
-        old_graph,
-        new_graph,
-        &mut old_labels,
-        &mut old_edges,
-        &mut new_labels,
-        &mut new_edges,
-    ) {
-        ProblemRead::Refused(refusal) => {
-            let reply = replies::of_read(refusal);
-            *value = reply.value;
-            reply.number
+    let mut graphs = Graphs::empty();
+    match graphs.read(old_graph, new_graph) {
+        Err(error) => {
+            let reply = Reply::refused(error);
+            reply.tell(value)
         }
-        ProblemRead::Orders(old_order, new_order) => {
+        Ok(orders) => {
+            let problem = graphs.problem(orders, substitutes);
             let fresh = Checkpoint::fresh(minimum);
-            let reply = replies::of_save(checkpoint_saver::save_checkpoint(
-                [old_order, new_order],
-                [&old_labels, &new_labels],
-                [&old_edges, &new_edges],
-                substitutes,
+            let reply = Reply::of(checkpoint_saver::save_checkpoint(
+                problem,
                 connected != 0,
                 fresh,
                 checkpoint,
             ));
-            *value = reply.value;
-            reply.number
+            reply.tell(value)
         }
     }
 }
@@ -208,39 +174,25 @@ pub extern "C" fn golfcedar_resume(
         ≡ resuming old_graph.now new_graph.now substitutes.now (asked connected) checkpoint.now budget
         workspace.old next.old }
 {
-    let mut old_labels = [0 as Label; MAX_ORDER];
-    let mut old_edges = [0u8; EDGE_BYTES];
-    let mut new_labels = [0 as Label; MAX_ORDER];
-    let mut new_edges = [0u8; EDGE_BYTES];
-    match problem_reader::read_problem(
-        old_graph,
-        new_graph,
-        &mut old_labels,
-        &mut old_edges,
-        &mut new_labels,
-        &mut new_edges,
-    ) {
-        ProblemRead::Refused(refusal) => {
-            let reply = replies::of_read(refusal);
-            *value = reply.value;
+    let mut graphs = Graphs::empty();
+    match graphs.read(old_graph, new_graph) {
+        Err(error) => {
+            let reply = Reply::refused(error);
             *ceiling = 0;
-            reply.number
+            reply.tell(value)
         }
-        ProblemRead::Orders(old_order, new_order) => {
+        Ok(orders) => {
+            let problem = graphs.problem(orders, substitutes);
             let resumed = replies::resume(
-                [old_order, new_order],
-                [&old_labels, &new_labels],
-                [&old_edges, &new_edges],
-                substitutes,
+                problem,
                 connected != 0,
                 checkpoint,
                 budget,
                 workspace,
                 next,
             );
-            *value = resumed.reply.value;
             *ceiling = resumed.ceiling;
-            resumed.reply.number
+            resumed.reply.tell(value)
         }
     }
 }
@@ -259,35 +211,21 @@ pub extern "C" fn golfcedar_descend_start(
     ensures { wrote (reply result value.new) checkpoint.new
         ≡ descend_starting old_graph.now new_graph.now substitutes.now (asked connected) floor checkpoint.old }
 {
-    let mut old_labels = [0 as Label; MAX_ORDER];
-    let mut old_edges = [0u8; EDGE_BYTES];
-    let mut new_labels = [0 as Label; MAX_ORDER];
-    let mut new_edges = [0u8; EDGE_BYTES];
-    match problem_reader::read_problem(
-        old_graph,
-        new_graph,
-        &mut old_labels,
-        &mut old_edges,
-        &mut new_labels,
-        &mut new_edges,
-    ) {
-        ProblemRead::Refused(refusal) => {
-            let reply = replies::of_read(refusal);
-            *value = reply.value;
-            reply.number
+    let mut graphs = Graphs::empty();
+    match graphs.read(old_graph, new_graph) {
+        Err(error) => {
+            let reply = Reply::refused(error);
+            reply.tell(value)
         }
-        ProblemRead::Orders(old_order, new_order) => {
-            let reply = replies::of_save(descent_replies::start(
-                [old_order, new_order],
-                [&old_labels, &new_labels],
-                [&old_edges, &new_edges],
-                substitutes,
+        Ok(orders) => {
+            let problem = graphs.problem(orders, substitutes);
+            let reply = Reply::of(descent_replies::start(
+                problem,
                 connected != 0,
                 floor,
                 checkpoint,
             ));
-            *value = reply.value;
-            reply.number
+            reply.tell(value)
         }
     }
 }
@@ -312,31 +250,18 @@ pub extern "C" fn golfcedar_descend_resume(
         ≡ descend_resuming old_graph.now new_graph.now substitutes.now (asked connected) floor checkpoint.now budget
         workspace.old next.old }
 {
-    let mut old_labels = [0 as Label; MAX_ORDER];
-    let mut old_edges = [0u8; EDGE_BYTES];
-    let mut new_labels = [0 as Label; MAX_ORDER];
-    let mut new_edges = [0u8; EDGE_BYTES];
-    match problem_reader::read_problem(
-        old_graph,
-        new_graph,
-        &mut old_labels,
-        &mut old_edges,
-        &mut new_labels,
-        &mut new_edges,
-    ) {
-        ProblemRead::Refused(refusal) => {
-            let reply = replies::of_read(refusal);
-            *value = reply.value;
+    let mut graphs = Graphs::empty();
+    match graphs.read(old_graph, new_graph) {
+        Err(error) => {
+            let reply = Reply::refused(error);
             *ceiling = 0;
             *visits = 0;
-            reply.number
+            reply.tell(value)
         }
-        ProblemRead::Orders(old_order, new_order) => {
+        Ok(orders) => {
+            let problem = graphs.problem(orders, substitutes);
             let descended = descent_replies::descend(
-                [old_order, new_order],
-                [&old_labels, &new_labels],
-                [&old_edges, &new_edges],
-                substitutes,
+                problem,
                 connected != 0,
                 floor,
                 checkpoint,
@@ -344,10 +269,9 @@ pub extern "C" fn golfcedar_descend_resume(
                 workspace,
                 next,
             );
-            *value = descended.reply.value;
             *ceiling = descended.ceiling;
             *visits = descended.visits;
-            descended.reply.number
+            descended.reply.tell(value)
         }
     }
 }
@@ -373,38 +297,19 @@ pub extern "C" fn golfcedar_read_out(
     *steps = 0;
     *size = 0;
     *ceiling = 0;
-    let mut old_labels = [0 as Label; MAX_ORDER];
-    let mut old_edges = [0u8; EDGE_BYTES];
-    let mut new_labels = [0 as Label; MAX_ORDER];
-    let mut new_edges = [0u8; EDGE_BYTES];
-    match problem_reader::read_problem(
-        old_graph,
-        new_graph,
-        &mut old_labels,
-        &mut old_edges,
-        &mut new_labels,
-        &mut new_edges,
-    ) {
-        ProblemRead::Refused(refusal) => {
-            let reply = replies::of_read(refusal);
-            *value = reply.value;
-            reply.number
+    let mut graphs = Graphs::empty();
+    match graphs.read(old_graph, new_graph) {
+        Err(error) => {
+            let reply = Reply::refused(error);
+            reply.tell(value)
         }
-        ProblemRead::Orders(old_order, new_order) => {
-            let out = replies::read_out(
-                [old_order, new_order],
-                [&old_labels, &new_labels],
-                [&old_edges, &new_edges],
-                substitutes,
-                connected != 0,
-                checkpoint,
-                mapping,
-            );
-            *value = out.reply.value;
+        Ok(orders) => {
+            let problem = graphs.problem(orders, substitutes);
+            let out = replies::read_out(problem, connected != 0, checkpoint, mapping);
             *steps = out.steps;
             *size = out.size;
             *ceiling = out.ceiling;
-            out.reply.number
+            out.reply.tell(value)
         }
     }
 }
@@ -423,36 +328,18 @@ pub extern "C" fn golfcedar_clique(
     ensures { clique_reply (reply result value.new) size.new mapping.new
         ≡ branching old_graph.now new_graph.now substitutes.now minimum mapping.old }
 {
-    let mut old_labels = [0 as Label; MAX_ORDER];
-    let mut old_edges = [0u8; EDGE_BYTES];
-    let mut new_labels = [0 as Label; MAX_ORDER];
-    let mut new_edges = [0u8; EDGE_BYTES];
-    match problem_reader::read_problem(
-        old_graph,
-        new_graph,
-        &mut old_labels,
-        &mut old_edges,
-        &mut new_labels,
-        &mut new_edges,
-    ) {
-        ProblemRead::Refused(refusal) => {
-            let reply = replies::of_read(refusal);
-            *value = reply.value;
+    let mut graphs = Graphs::empty();
+    match graphs.read(old_graph, new_graph) {
+        Err(error) => {
+            let reply = Reply::refused(error);
             *size = 0;
-            reply.number
+            reply.tell(value)
         }
-        ProblemRead::Orders(old_order, new_order) => {
-            let found = replies::branch(
-                [old_order, new_order],
-                [&old_labels, &new_labels],
-                [&old_edges, &new_edges],
-                substitutes,
-                minimum,
-                mapping,
-            );
-            *value = found.reply.value;
+        Ok(orders) => {
+            let problem = graphs.problem(orders, substitutes);
+            let found = replies::branch(problem, minimum, mapping);
             *size = found.size;
-            found.reply.number
+            found.reply.tell(value)
         }
     }
 }
@@ -462,7 +349,9 @@ pub extern "C" fn golfcedar_clique(
 pub extern "C" fn golfcedar_step_limit(new_order: u64, old_order: u64, value: &mut u64) -> u32
     ensures { reply result value.new ≡ reply_of (foretold new_order old_order) }
 {
-    let reply = replies::of_limit(step_limit::step_limit(new_order as usize, old_order as usize));
-    *value = reply.value;
-    reply.number
+    let reply = match step_limit::step_limit(new_order as usize, old_order as usize) {
+        Ok(limit) => Reply::accepted(limit),
+        Err(error) => Reply::refused(error),
+    };
+    reply.tell(value)
 }

@@ -2,7 +2,7 @@
 use mathlib.Core.Path.{◌≡◌, refl}
 use mathlib.Core.Bool.{true, false}
 use mathlib.Core.List.{List, [], ◌∷◌, ◌++◌}
-use mathlib.Core.Option.{none, some}
+use Rattle.std.specs.Prelude.{None, Some}
 use Prim.Native.Nat.{ℕ}
 use Rattle.little_endian.specs.LittleEndian.{little_endian, from_little}
 use Rattle.bounded.specs.Below.{run_below}
@@ -32,15 +32,15 @@ head = 16 ∷ 1 ∷ 17 ∷ 2 ∷ 1 ∷ 0 ∷ 0 ∷ 0 ∷ 0 ∷ 0 ∷ 0 ∷ 18 �
 pub small_cases :
     (checkpoint_bytes 3 midway ≡ head ++ (1 ∷ 19 ∷ 1 ∷ 19 ∷ 255 ∷ 20 ∷ 1 ∷ 20 ∷ 0 ∷ 20 ∷ 255 ∷ 0 ∷ []))
     × (said 3 (checkpoint_bytes 3 midway) ≡ midway)
-    × (form_fault 3 (checkpoint_bytes 3 midway) ≡ none)
+    × (form_fault 3 (checkpoint_bytes 3 midway) ≡ None)
     -- nothing at all, a wrong first mark, a state above 3
-    × (form_fault 3 [] ≡ some 0)
-    × (form_fault 3 (17 ∷ []) ≡ some 0)
-    × (form_fault 3 (head ++ (4 ∷ 0 ∷ [])) ≡ some 12)
+    × (form_fault 3 [] ≡ Some 0)
+    × (form_fault 3 (17 ∷ []) ≡ Some 0)
+    × (form_fault 3 (head ++ (4 ∷ 0 ∷ [])) ≡ Some 12)
     -- entry n + 1 at its 19, a 0 where a 20 is due, bytes after the end, a missing end
-    × (form_fault 1 (head ++ (0 ∷ 19 ∷ 0 ∷ 19 ∷ 0 ∷ 0 ∷ [])) ≡ some 15)
-    × (form_fault 1 (head ++ (1 ∷ 0 ∷ [])) ≡ some 13)
-    × (form_fault 1 (head ++ (0 ∷ 0 ∷ 0 ∷ [])) ≡ some 14)
-    × (form_fault 1 (head ++ (0 ∷ 19 ∷ [])) ≡ some 14)
+    × (form_fault 1 (head ++ (0 ∷ 19 ∷ 0 ∷ 19 ∷ 0 ∷ 0 ∷ [])) ≡ Some 15)
+    × (form_fault 1 (head ++ (1 ∷ 0 ∷ [])) ≡ Some 13)
+    × (form_fault 1 (head ++ (0 ∷ 0 ∷ 0 ∷ [])) ≡ Some 14)
+    × (form_fault 1 (head ++ (0 ∷ 19 ∷ [])) ≡ Some 14)
 unfolding header_bytes checkpoint_bytes little_endian from_little said run_below next fault_from
 small_cases = (refl, refl, refl, refl, refl, refl, refl, refl, refl, refl)

@@ -2,7 +2,7 @@
 use mathlib.Core.Path.{◌≡◌, refl}
 use mathlib.Core.Bool.{Bool, true, false, cond, not, ◌&&◌}
 use mathlib.Core.List.{List}
-use mathlib.Core.Option.{Option, none, some}
+use Rattle.std.specs.Prelude.{Option, None, Some}
 use Prim.Native.Nat.{ℕ, ◌+◌, ◌≤◌, ◌<◌}
 use native.Mathlib.Numerals.{add-one}
 use native.Mathlib.Omega.{arith}
@@ -16,8 +16,8 @@ use Rattle.checkpoint_loader.specs.Form.{stage_if, or_stage, next, holds_of, is_
 
 -- the number that a stage carries, where there is one
 abbrev count_of : Option Stage → ℕ
-count_of none = 0
-count_of (some s) = count s
+count_of None = 0
+count_of (Some s) = count s
 
 if_count : (m : ℕ) (t : Bool) (s : Stage) → count s ≤ m → count_of (stage_if t s) ≤ m
 if_count m true s h = h
@@ -38,7 +38,7 @@ next_count n (Header i) b =
     cond_count _ (eqb i 0) (eqb b 16) (Header 1) _ (λ e. omega arith) (
     cond_count _ (eqb i 2) (eqb b 17) (Header 3) _ (λ e. omega (arith, eqb-true i 2 e)) (
     cond_count _ (eqb i 11) (eqb b 18) (Header 12) _ (λ e. omega (arith, eqb-true i 11 e)) (
-    cond_count _ (eqb i 12) (leb b 3) (Path (holds_of b) 0) (some (Header (i + 1))) (λ e. omega arith) (omega arith))))
+    cond_count _ (eqb i 12) (leb b 3) (Path (holds_of b) 0) (Some (Header (i + 1))) (λ e. omega arith) (omega arith))))
 next_count n (Path holds k) b =
     or_count _ (eqb b 19 && ltb k n) (PathByte holds k) _ (omega arith) (
     or_count _ (eqb b 20 && holds && ltb 0 n) (IncumbentByte 0) _ (omega arith) (
@@ -49,6 +49,15 @@ next_count n (Incumbent k) b =
     if_count _ (eqb b 0) Done (omega arith))
 next_count n (IncumbentByte k) b = omega arith
 next_count n Done b = omega arith
+
+-- a stage that is not the last
+not_done : (s : Stage) → (s ≡ Done → ⊥) → is_done s ≡ false
+not_done (Header i) k = refl
+not_done (Path holds i) k = refl
+not_done (PathByte holds i) k = refl
+not_done (Incumbent i) k = refl
+not_done (IncumbentByte i) k = refl
+not_done Done k = absurd (k refl)
 
 -- The invariant: from the stage and the place reached, the rest has the fault that the whole has.
 pub record FaultTurn (order : ℕ) (bytes : List ℕ) (stage : Stage) (at : ℕ) : Type 0 where
@@ -61,7 +70,7 @@ turn_first order bytes = record { same = refl; within = omega arith; counted = o
 
 module _ (order : ℕ) (bytes : List ℕ) (stage : Stage) (at : ℕ) (turn : FaultTurn order bytes stage at) where
   -- a byte that stands
-  pub turn_more : (later : Stage) → at < length bytes → next order stage (get_or bytes at 0) ≡ some later → FaultTurn order bytes later (at + 1)
+  pub turn_more : (later : Stage) → at < length bytes → next order stage (get_or bytes at 0) ≡ Some later → FaultTurn order bytes later (at + 1)
   unfolding fault_from
   turn_more later h e =
       record {
@@ -71,11 +80,18 @@ module _ (order : ℕ) (bytes : List ℕ) (stage : Stage) (at : ℕ) (turn : Fau
       }
 
   -- a byte that does not
-  pub turn_stuck : at < length bytes → next order stage (get_or bytes at 0) ≡ none → some at ≡ form_fault order bytes
+  pub turn_stuck : at < length bytes → next order stage (get_or bytes at 0) ≡ None → Some at ≡ form_fault order bytes
   unfolding fault_from
   turn_stuck h e = rw (drop-cons bytes at 0, fault_from, e) at turn.same
 
-  -- the end
-  pub turn_end : length bytes ≤ at → cond (is_done stage) none (some at) ≡ form_fault order bytes
+  -- the end, after the last of the six stages
+  pub turn_done : length bytes ≤ at → stage ≡ Done → None ≡ form_fault order bytes
   unfolding fault_from
-  turn_end h = rw (drop_of_length-le bytes h) at turn.same
+  turn_done h e = rw (drop_of_length-le bytes h, e) at turn.same
+
+  -- and after another
+  pub turn_cut : length bytes ≤ at → (stage ≡ Done → ⊥) → Some (length bytes) ≡ form_fault order bytes
+  unfolding fault_from
+  turn_cut h k =
+      let end : length bytes ≡ at = omega (arith, turn.within) in
+      rw end (rw (drop_of_length-le bytes h, not_done stage k) at turn.same)

@@ -2,7 +2,7 @@
 use mathlib.Core.Path.{◌≡◌, refl}
 use mathlib.Core.Bool.{Bool, true, false, cond, not, ◌&&◌, true≢false}
 use mathlib.Core.List.{List, [], ◌∷◌}
-use mathlib.Core.Option.{Option, none, some}
+use Rattle.std.specs.Prelude.{Option, None, Some}
 use Prim.Native.Nat.{ℕ, zero, suc, ◌+◌, ◌-◌, ◌≤◌, ◌<◌}
 use native.Mathlib.Decide.{dec_lt}
 use native.Mathlib.Omega.{arith}
@@ -33,16 +33,16 @@ abbrev blank : List ℕ
 blank = 16 ∷ 0 ∷ 17 ∷ 0 ∷ 0 ∷ 0 ∷ 0 ∷ 0 ∷ 0 ∷ 0 ∷ 0 ∷ 18 ∷ 0 ∷ 0 ∷ []
 
 abbrev faultless : Option ℕ → Bool
-faultless none = true
-faultless (some at) = false
+faultless None = true
+faultless (Some at) = false
 
-is_faultless : (o : Option ℕ) → faultless o ≡ true → o ≡ none
-is_faultless none e = refl
-is_faultless (some at) e = absurd (true≢false (cc))
+is_faultless : (o : Option ℕ) → faultless o ≡ true → o ≡ None
+is_faultless None e = refl
+is_faultless (Some at) e = absurd (true≢false (cc))
 
 module _ {n : ℕ} where
   -- a byte more in front
-  in_front : (stage : Stage) (b : ℕ) (later : Stage) → b < 256 → next n stage b ≡ some later → Completion n later → Completion n stage
+  in_front : (stage : Stage) (b : ℕ) (later : Stage) → b < 256 → next n stage b ≡ Some later → Completion n later → Completion n stage
   in_front stage b later h e c = record {
     rest = b ∷ c.rest;
     rest_bytes = cons_bytes b c.rest h c.rest_bytes;
@@ -105,8 +105,8 @@ complete (IncumbentByte k) h = incumbent_byte k
 complete Done h = done
 
 abbrev pub StartedIf : Option Stage → Type 0
-StartedIf none = Unit {0}
-StartedIf (some stage) = Started stage
+StartedIf None = Unit {0}
+StartedIf (Some stage) = Started stage
 
 started_if : (t : Bool) (stage : Stage) → Started stage → StartedIf (stage_if t stage)
 started_if true stage h = h

@@ -2,7 +2,8 @@
 use mathlib.Core.Path.{◌≡◌, refl, sym, ap, ◌∙◌}
 use mathlib.Core.Bool.{Bool, true, false, cond, not, ◌&&◌, true≢false, and-eq-true_iff}
 use mathlib.Core.List.{List, [], ◌∷◌, ◌++◌}
-use mathlib.Core.Option.{some, some-injective}
+use Rattle.std.specs.Prelude.{Some}
+use Rattle.std.proofs.lemmas.Option.{same_Some}
 use Prim.Native.Nat.{ℕ, zero, suc, ◌+◌, ◌-◌, ◌≤◌, ◌<◌}
 use native.Mathlib.Omega.{arith}
 use lib.Dec.{eqb, ltb}
@@ -74,23 +75,23 @@ module _ (n : ℕ) where
     where
       go : (b : ℕ) (rest : List ℕ) (later : Stage) → bytes ≡ b ∷ rest → Ends n later rest
           → (t u v : Bool) → (eqb b 19 && ltb k n) ≡ t → (eqb b 20 && holds && ltb 0 n) ≡ u → (eqb b 0 && not (holds && ltb 0 n)) ≡ v
-          → or_stage (stage_if t (PathByte holds k)) (or_stage (stage_if u (IncumbentByte 0)) (stage_if v Done)) ≡ some later
+          → or_stage (stage_if t (PathByte holds k)) (or_stage (stage_if u (IncumbentByte 0)) (stage_if v Done)) ≡ Some later
           → PathNext holds k bytes
       go b rest later whole more true u v p q r e =
           let both = (and-eq-true_iff (eqb b 19) (ltb k n)).0 p in
-          let second = any_byte {stage = PathByte holds k} refl (rw (← some-injective _ _ e) at more) (Path holds (k + 1)) (λ b. refl) in
+          let second = any_byte {stage = PathByte holds k} refl (rw (← same_Some _ _ e) at more) (Path holds (k + 1)) (λ b. refl) in
           another second.0 second.1 (cc (eqb-true b 19 both.0, second.2)) (ltb-true k n both.1) second.3
       go b rest later whole more false true v p q r e =
           let all = (and-eq-true_iff (eqb b 20 && holds) (ltb 0 n)).0 q in
           let both = (and-eq-true_iff (eqb b 20) holds).0 all.0 in
-          let second = any_byte {stage = IncumbentByte 0} refl (rw (← some-injective _ _ e) at more) (Incumbent 1) (λ b. refl) in
+          let second = any_byte {stage = IncumbentByte 0} refl (rw (← same_Some _ _ e) at more) (Incumbent 1) (λ b. refl) in
           let positive : 0 < n = ltb-true 0 n all.1 in
           let count : suc (n - 1) ≡ cond holds n 0 = rw both.1 (omega arith) in
           no_other (rw (← count)
           (incumbent_entry second.0 (cc (eqb-true b 20 both.0, second.2)) (incumbent_section (n - 1) 1 second.1 (omega arith) second.3)))
       go b rest later whole more false false true p q r e =
           let both = (and-eq-true_iff (eqb b 0) (not (holds && ltb 0 n))).0 r in
-          let end : rest ≡ [] = nothing_after {n = n} {bytes = rest} (rw (← some-injective _ _ e) at more) in
+          let end : rest ≡ [] = nothing_after {n = n} {bytes = rest} (rw (← same_Some _ _ e) at more) in
           no_other (record { incumbent = []; incumbent_length = sym (none_incumbent holds both.1); whole = cc (eqb-true b 0 both.0) })
       go b rest later whole more false false false p q r e = absurd (true≢false (cc))
 

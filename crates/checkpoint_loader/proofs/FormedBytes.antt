@@ -2,7 +2,7 @@
 use mathlib.Core.Path.{◌≡◌, refl, sym, ap, ◌∙◌}
 use mathlib.Core.Bool.{cond}
 use mathlib.Core.List.{List, [], ◌∷◌, ◌++◌}
-use mathlib.Core.Option.{none, some}
+use Rattle.std.specs.Prelude.{None, Some}
 use Prim.Native.Nat.{ℕ, zero, suc, ◌+◌, ◌*◌, ◌≤◌, ◌<◌}
 use native.Mathlib.Omega.{arith}
 use lib.Dec.{leb}
@@ -23,7 +23,7 @@ form_length : (minimum : ℕ) (steps : List ℕ) (state : ℕ) (path incumbent :
 form_length minimum steps state path incumbent eight = simp (length-append, length_pairs) (omega arith)
 
 -- between the marks at 2 and 11 any byte may stand
-plain_stage : (i b : ℕ) → 3 ≤ i → i < 11 → header_stage i b ≡ some (Header (i + 1))
+plain_stage : (i b : ℕ) → 3 ≤ i → i < 11 → header_stage i b ≡ Some (Header (i + 1))
 plain_stage i b low high =
     rw (ne_eqb i 0 (λ e. omega arith), ne_eqb i 2 (λ e. omega arith), ne_eqb i 11 (λ e. omega arith), ne_eqb i 12 (λ e. omega arith))
 
@@ -40,7 +40,7 @@ plain_bytes (suc m) i bytes low e ends =
     (first.0 ∷ later.0, later.1, ap suc later.2, first.2 ∙ ap (◌∷◌ first.0) later.3, later.4)
 
 -- Bytes in the form say these things.
-pub formed : (n : ℕ) (bytes : List ℕ) → form_fault n bytes ≡ none → Formed n bytes
+pub formed : (n : ℕ) (bytes : List ℕ) → form_fault n bytes ≡ None → Formed n bytes
 unfolding next
 formed n bytes e =
     let a = one_byte refl (faultless_ends n (Header 0) 0 bytes e) (Header 1) 16 (λ b. refl) in
@@ -73,7 +73,7 @@ plain_ends i (b ∷ steps) rest low e ends =
     byte (Header i) b (Header (i + 1)) (plain_stage i b low (omega arith)) (plain_ends (i + 1) steps rest (omega arith) (omega arith) ends)
 
 -- Bytes that say these things are in the form.
-pub formed_faultless : {n : ℕ} {bytes : List ℕ} → Formed n bytes → form_fault n bytes ≡ none
+pub formed_faultless : {n : ℕ} {bytes : List ℕ} → Formed n bytes → form_fault n bytes ≡ None
 unfolding next
 formed_faultless {n} f =
     rw f.whole
@@ -109,7 +109,7 @@ module _ {n : ℕ} {bytes : List ℕ} (f : Formed n bytes) where
   path_count = rw (incumbent_count, whole_length) (omega arith)
 
 -- Bytes in the form have at most n path entries, and no byte besides the header, the entries and the end.
-pub formed_lengths : (n : ℕ) (bytes : List ℕ) → form_fault n bytes ≡ none
+pub formed_lengths : (n : ℕ) (bytes : List ℕ) → form_fault n bytes ≡ None
     → (path_entries n bytes ≤ n) × (length bytes ≡ 14 + 2 * path_entries n bytes + 2 * incumbent_entries n bytes)
 formed_lengths n bytes e =
     let f = formed n bytes e in

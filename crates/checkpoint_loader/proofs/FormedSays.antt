@@ -2,7 +2,7 @@
 use mathlib.Core.Path.{◌≡◌, refl, sym, ap, ◌∙◌}
 use mathlib.Core.Bool.{Bool, true, false, cond}
 use mathlib.Core.List.{List, [], ◌∷◌, ◌++◌, append_assoc}
-use mathlib.Core.Option.{none}
+use Rattle.std.specs.Prelude.{None}
 use Prim.Native.Nat.{ℕ, zero, suc, ◌+◌, ◌-◌, ◌*◌, ◌≤◌, ◌<◌}
 use native.Mathlib.Omega.{arith}
 use lib.ListN.{length, get_or, take, drop, replicate, length-append, get_or-append}
@@ -110,7 +110,7 @@ module _ {n : ℕ} {bytes : List ℕ} (small : Bytes bytes) (f : Formed n bytes)
       ∙ sym f.whole
 
 -- Bytes in the form, loaded and saved again, are the same bytes.
-pub load_save : (n : ℕ) (bytes : List ℕ) → Bytes bytes → form_fault n bytes ≡ none → checkpoint_bytes n (said n bytes) ≡ bytes
+pub load_save : (n : ℕ) (bytes : List ℕ) → Bytes bytes → form_fault n bytes ≡ None → checkpoint_bytes n (said n bytes) ≡ bytes
 load_save n bytes small e =
     let f = formed n bytes e in
     ap (checkpoint_bytes n) (said_formed f) ∙ formed_back small f

@@ -2,7 +2,7 @@
 use mathlib.Core.Path.{◌≡◌, refl, sym, ap, ◌∙◌}
 use mathlib.Core.Bool.{Bool, true, false, true≢false}
 use mathlib.Core.List.{List}
-use mathlib.Core.Option.{Option, none, some}
+use Rattle.std.specs.Prelude.{Option, None, Some}
 use Prim.Native.Nat.{ℕ}
 use Rattle.answers.specs.Answer.{Answer, passed, accepted, refused, refused_at, when_passed}
 use Rattle.problem.specs.Problem.{Problem, SoundProblem, problem_answer}
@@ -18,14 +18,14 @@ use Rattle.checkpoint_loader.proofs.SaveLoad.{loads}
 
 -- the two ways that a load can go
 data LoadedOrRefused (connected : Bool) (P : Problem) (bytes : List ℕ) (l : Loading) : Type 0 where
-  said_loaded : problem_answer P ≡ passed → form_fault P.old.order bytes ≡ none → in_shape connected P (said P.old.order bytes) ≡ true
+  said_loaded : problem_answer P ≡ passed → form_fault P.old.order bytes ≡ None → in_shape connected P (said P.old.order bytes) ≡ true
       → l ≡ loads (said P.old.order bytes) → LoadedOrRefused connected P bytes l
   fresh_refused : (a : Answer) → (a ≡ passed → ⊥) → l ≡ refuse a → LoadedOrRefused connected P bytes l
 
 -- what an accepted load says of its bytes
 pub record Accepted (connected : Bool) (P : Problem) (bytes : List ℕ) : Type 0 where
   pub sound : SoundProblem P
-  pub whole : form_fault P.old.order bytes ≡ none
+  pub whole : form_fault P.old.order bytes ≡ None
   pub loaded : (loading connected P bytes).checkpoint ≡ said P.old.order bytes
   pub shape : InShape connected P (loading connected P bytes).checkpoint
 
@@ -37,9 +37,9 @@ module _ (connected : Bool) (P : Problem) (bytes : List ℕ) where
     where
       go : (a : Answer) → problem_answer P ≡ a → (fault : Option ℕ) → form_fault P.old.order bytes ≡ fault
           → (t : Bool) → in_shape connected P (said P.old.order bytes) ≡ t → LoadedOrRefused connected P bytes (when_passed a (on_form connected P bytes fault) refuse)
-      go passed p none q true r = said_loaded p q r (rw r)
-      go passed p none q false r = fresh_refused (refused 14) (λ e. true≢false (cc)) (rw r)
-      go passed p (some at) q t r = fresh_refused (refused_at 17 at) (λ e. true≢false (cc)) refl
+      go passed p None q true r = said_loaded p q r (rw r)
+      go passed p None q false r = fresh_refused (refused 14) (λ e. true≢false (cc)) (rw r)
+      go passed p (Some at) q t r = fresh_refused (refused_at 17 at) (λ e. true≢false (cc)) refl
       go (accepted n) p fault q t r = fresh_refused (accepted n) (λ e. true≢false (cc)) refl
       go (refused n) p fault q t r = fresh_refused (refused n) (λ e. true≢false (cc)) refl
       go (refused_at n at) p fault q t r = fresh_refused (refused_at n at) (λ e. true≢false (cc)) refl

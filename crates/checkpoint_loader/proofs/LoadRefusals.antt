@@ -2,7 +2,7 @@
 use mathlib.Core.Path.{◌≡◌, refl, sym, ap, ◌∙◌}
 use mathlib.Core.Bool.{Bool, true, false, cond, true≢false}
 use mathlib.Core.List.{List}
-use mathlib.Core.Option.{none, some}
+use Rattle.std.specs.Prelude.{None, Some}
 use Prim.Native.Nat.{ℕ}
 use Rattle.answers.specs.Answer.{passed, refused, refused_at}
 use Rattle.problem.specs.Problem.{Problem, problem_answer}
@@ -32,11 +32,11 @@ module _ (connected : Bool) (P : Problem) (bytes : List ℕ) where
 
   module _ (sound : problem_answer P ≡ passed) where
     -- Bytes that are not in the form are refused with the place.
-    pub load_malformed : (at : ℕ) → form_fault P.old.order bytes ≡ some at → refuse (refused_at 17 at) ≡ loading connected P bytes
+    pub load_malformed : (at : ℕ) → form_fault P.old.order bytes ≡ Some at → refuse (refused_at 17 at) ≡ loading connected P bytes
     unfolding loading
     load_malformed at e = rw (sound, e)
 
-    module _ (formed : form_fault P.old.order bytes ≡ none) (c : Checkpoint) (told : c ≡ said P.old.order bytes) where
+    module _ (formed : form_fault P.old.order bytes ≡ None) (c : Checkpoint) (told : c ≡ said P.old.order bytes) where
       -- past the first two tests the third decides
       shape_decides : loading connected P bytes ≡ on_shape connected P c
       unfolding loading

@@ -2,7 +2,7 @@
 use mathlib.Core.Path.{◌≡◌, refl, sym, ap, ap₂, ◌∙◌}
 use mathlib.Core.Bool.{Bool, true, false, cond}
 use mathlib.Core.List.{List, [], ◌∷◌, ◌++◌, append_assoc}
-use mathlib.Core.Option.{none}
+use Rattle.std.specs.Prelude.{None}
 use Prim.Native.Nat.{ℕ, ◌≤◌}
 use native.Mathlib.Omega.{arith}
 use lib.ListN.{get_or}
@@ -59,5 +59,5 @@ module _ (n : ℕ) (c : Checkpoint) where
   }
 
   -- No byte of a saved checkpoint stands where it cannot.
-  pub save_formed : c.depth ≤ n → form_fault n (checkpoint_bytes n c) ≡ none
+  pub save_formed : c.depth ≤ n → form_fault n (checkpoint_bytes n c) ≡ None
   save_formed deep = formed_faultless (saved_formed deep)

@@ -1,11 +1,14 @@
 -- What each answer of this crate says in 01's terms: passed, a refusal's number, or a number with its place (01, "Refusals by place of checking").
-use Rattle.answers.specs.Answer.{Answer, passed, refused, refused_at}
-use Rattle.problem.specs.Answers.{problem_flaw_number}
-use Rattle.checkpoint_loader.specs.declared.LoadAnswer.{LoadAnswer}
-use Rattle.checkpoint_loader.specs.declared.LoadAnswer.TheVariants as load
+use Rattle.std.specs.Prelude.{Result}
+use Rattle.answers.specs.Answer.{Answer, passed, refused_at, result_answer}
+use Rattle.checkpoint.specs.Answers.{shape_refusal}
+use Rattle.checkpoint.specs.declared.Checkpoint.{Checkpoint}
+use Rattle.checkpoint_loader.specs.declared.LoadError.{LoadError}
+use Rattle.checkpoint_loader.specs.declared.LoadError.TheVariants.{Shape, Malformed}
 
-abbrev pub load_answer : LoadAnswer → Answer
-load_answer load.InShape = passed
-load_answer (load.Flawed f) = refused (problem_flaw_number f)
-load_answer (load.Malformed at) = refused_at 17 at
-load_answer load.OutOfShape = refused 14
+abbrev pub load_refusal : LoadError → Answer
+load_refusal (Shape e) = shape_refusal e
+load_refusal (Malformed at) = refused_at 17 at
+
+abbrev pub load_answer : Result Checkpoint LoadError → Answer
+load_answer r = result_answer (λ c. passed) load_refusal r

@@ -1,6 +1,5 @@
 -- What 17's place says of the bytes: "the first byte that can't stand there (the length if the end is missing)" (01, "Refusals by place of checking").
-use Rattle.std.specs.Prelude.{◌≡◌, List, ◌++◌, ℕ, ◌+◌, ◌≤◌, ◌<◌, length, get_or, take}
-use Rattle.std.proofs.Math.Option.{none, some}
+use Rattle.std.specs.Prelude.{◌≡◌, List, ◌++◌, ℕ, ◌+◌, ◌≤◌, ◌<◌, length, get_or, take, None, Some}
 use Rattle.checkpoint_loader.specs.Form.{form_fault}
 
 -- every one is a byte
@@ -12,6 +11,6 @@ pub record FaultPlace (n : ℕ) (bytes : List ℕ) (at : ℕ) : Type 0 where
   -- the bytes before it can still be completed to bytes in the form
   pub rest : List ℕ
   pub rest_bytes : Bytes rest
-  pub completed : form_fault n (take at bytes ++ rest) ≡ none
+  pub completed : form_fault n (take at bytes ++ rest) ≡ None
   -- with the byte at it they cannot: whatever follows, the fault stays
-  pub spoilt : at < length bytes → (more : List ℕ) → form_fault n (take (at + 1) bytes ++ more) ≡ some at
+  pub spoilt : at < length bytes → (more : List ℕ) → form_fault n (take (at + 1) bytes ++ more) ≡ Some at

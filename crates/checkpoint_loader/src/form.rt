@@ -1,7 +1,7 @@
 // The form of checkpoint bytes, walked byte by byte to the first one that cannot stand where it does.
 
 ghost use Rattle.std.specs.Prelude.{◌≡◌, ◌+◌, ◌^◌, ◌<◌};
-ghost use Rattle.checkpoint_loader.specs.Form.{stage_if, header_stage, path_stage, next as next_stage, is_done, form_fault, count, step_of, fault_of};
+ghost use Rattle.checkpoint_loader.specs.Form.{header_stage, path_stage, next as next_stage, form_fault, count};
 
 use checkpoint_saver::{END, INCUMBENT_MARK, MINIMUM_MARK, PATH_MARK, STATE_MARK, STEPS_MARK};
 
@@ -16,112 +16,67 @@ pub enum Stage {
     Done,
 }
 
-// The stage after a byte, or that the byte cannot stand there.
-#[derive(Clone, Copy)]
-pub enum Step {
-    To(Stage),
-    Stuck,
-}
-
-// Whether bytes are in the form, or the place of the first byte that cannot stand where it does.
-#[derive(Clone, Copy)]
-pub enum Form {
-    Whole,
-    FaultAt(usize),
-}
-
-// The stage, if the byte is the one that is due.
-pub fn to_if(fits: bool, stage: Stage) -> Step
-    ensures { step_of result ≡ stage_if fits stage }
-{
-    if fits {
-        return Step::To(stage);
-    }
-    Step::Stuck
-}
-
-pub fn after_header(i: usize, byte: u8) -> Step
+fn after_header(i: usize, byte: u8) -> Option<Stage>
     requires { i + 1 < 2 ^ 64 }
-    ensures { step_of result ≡ header_stage i byte }
+    ensures { result ≡ header_stage i byte }
 {
-    if i == 0 {
-        return to_if(byte == MINIMUM_MARK, Stage::Header(1));
+    match i {
+        0 => (byte == MINIMUM_MARK).then_some(Stage::Header(1)),
+        2 => (byte == STEPS_MARK).then_some(Stage::Header(3)),
+        11 => (byte == STATE_MARK).then_some(Stage::Header(12)),
+        12 => (byte <= 3).then_some(Stage::Path(byte % 2 == 1, 0)),
+        _ => Some(Stage::Header(i + 1)),
     }
-    if i == 2 {
-        return to_if(byte == STEPS_MARK, Stage::Header(3));
-    }
-    if i == 11 {
-        return to_if(byte == STATE_MARK, Stage::Header(12));
-    }
-    if i == 12 {
-        return to_if(byte <= 3, Stage::Path(byte % 2 == 1, 0));
-    }
-    Step::To(Stage::Header(i + 1))
 }
 
-pub fn after_path(order: usize, holds: bool, k: usize, byte: u8) -> Step
-    ensures { step_of result ≡ path_stage order holds k byte }
+fn after_path(order: usize, holds: bool, k: usize, byte: u8) -> Option<Stage>
+    ensures { result ≡ path_stage order holds k byte }
 {
-    let incumbent_due = holds & (0 < order);
-    if byte == PATH_MARK {
-        return to_if(k < order, Stage::PathByte(holds, k));
+    let incumbent_due = holds && 0 < order;
+    match byte {
+        PATH_MARK => (k < order).then_some(Stage::PathByte(holds, k)),
+        INCUMBENT_MARK => incumbent_due.then_some(Stage::IncumbentByte(0)),
+        END => (!incumbent_due).then_some(Stage::Done),
+        _ => None,
     }
-    if byte == INCUMBENT_MARK {
-        return to_if(incumbent_due, Stage::IncumbentByte(0));
-    }
-    if byte == END {
-        return to_if(!incumbent_due, Stage::Done);
-    }
-    Step::Stuck
 }
 
-pub fn next(order: usize, stage: Stage, byte: u8) -> Step
-    requires { count stage + 1 < 2 ^ 64 }
-    ensures { step_of result ≡ next_stage order stage byte }
-{
-    match stage {
-        Stage::Header(i) => after_header(i, byte),
-        Stage::Path(holds, k) => after_path(order, holds, k, byte),
-        Stage::PathByte(holds, k) => Step::To(Stage::Path(holds, k + 1)),
-        Stage::Incumbent(k) => {
-            if k < order {
-                return to_if(byte == INCUMBENT_MARK, Stage::IncumbentByte(k));
+impl Stage {
+    // The stage after a byte, if the byte can stand there.
+    fn next(self, order: usize, byte: u8) -> Option<Stage>
+        requires { count self + 1 < 2 ^ 64 }
+        ensures { result ≡ next_stage order self byte }
+    {
+        match self {
+            Stage::Header(i) => after_header(i, byte),
+            Stage::Path(holds, k) => after_path(order, holds, k, byte),
+            Stage::PathByte(holds, k) => Some(Stage::Path(holds, k + 1)),
+            Stage::Incumbent(k) => {
+                if k < order {
+                    (byte == INCUMBENT_MARK).then_some(Stage::IncumbentByte(k))
+                } else {
+                    (byte == END).then_some(Stage::Done)
+                }
             }
-            to_if(byte == END, Stage::Done)
+            Stage::IncumbentByte(k) => Some(Stage::Incumbent(k + 1)),
+            Stage::Done => None,
         }
-        Stage::IncumbentByte(k) => Step::To(Stage::Incumbent(k + 1)),
-        Stage::Done => Step::Stuck,
     }
 }
 
-// Whether the end may come after this stage.
-pub fn at_end(stage: Stage) -> bool
-    ensures { result ≡ is_done stage }
-{
-    match stage {
-        Stage::Done => true,
-        _ => false,
-    }
-}
-
-pub fn find_fault(order: usize, bytes: &[u8]) -> Form
-    ensures { fault_of result ≡ form_fault order bytes.now }
+// The place of the first byte that cannot stand where it does, the length if the end is missing, and nothing where the bytes are in the form.
+pub fn find_fault(order: usize, bytes: &[u8]) -> Option<usize>
+    ensures { result ≡ form_fault order bytes.now }
 {
     let mut stage = Stage::Header(0);
-    let mut at = 0;
-    while at < bytes.len() {
-        match next(order, stage, bytes[at]) {
-            Step::To(later) => {
-                stage = later;
-            }
-            Step::Stuck => {
-                return Form::FaultAt(at);
-            }
+    for (at, byte) in bytes.iter().enumerate() {
+        match stage.next(order, *byte) {
+            Some(later) => stage = later,
+            None => return Some(at),
         }
-        at += 1;
     }
-    if at_end(stage) {
-        return Form::Whole;
+    match stage {
+        Stage::Done => None,
+        _ => Some(bytes.len()),
     }
-    Form::FaultAt(at)
 }

@@ -6,83 +6,71 @@ mod form;
 mod loader;
 
 ghost use Rattle.std.specs.Prelude.{◌≡◌};
-ghost use Rattle.answers.specs.Answer.{refusal_number};
 ghost use Rattle.problem.specs.Lent.{lent};
-ghost use Rattle.checkpoint_loader.specs.Loading.{loading_of, loading, refuse as refused};
-ghost use Rattle.checkpoint_loader.specs.Answers.{load_answer};
+ghost use Rattle.checkpoint.specs.declared.ShapeError.TheVariants.{Flawed as OfProblem};
+ghost use Rattle.checkpoint_loader.specs.declared.LoadError.TheVariants.{Shape as OfShape};
+ghost use Rattle.checkpoint_loader.specs.Loading.{loading_of, loading};
+ghost use Rattle.checkpoint_loader.specs.Answers.{load_refusal};
 
-use checkpoint::{Checkpoint, ShapeAnswer};
-use form::Form;
-use problem::{Edges, Labels, Orders, ProblemAnswer, ProblemFlaw};
+use answers::Refusal;
+use checkpoint::{Checkpoint, ShapeError};
+use problem::{Problem, ProblemFlaw};
 
-// The answer of `load_checkpoint`: a checkpoint in shape, or a refusal; `Malformed` has the place of the first byte that cannot stand there.
-#[derive(Clone, Copy)]
-pub enum LoadAnswer {
-    InShape,
-    Flawed(ProblemFlaw),
+// Why no checkpoint was loaded; `Malformed` has the place of the first byte that cannot stand there.
+#[derive(Clone, Copy, Debug, PartialEq, Eq)]
+pub enum LoadError {
+    Shape(ShapeError),
     Malformed(usize),
-    OutOfShape,
 }
 
-// The document's number of a refusal, and 0 where a checkpoint was loaded.
-pub fn load_number(answer: LoadAnswer) -> u8
-    ensures { result ≡ refusal_number (load_answer answer) }
-{
-    match answer {
-        LoadAnswer::InShape => 0,
-        LoadAnswer::Flawed(flaw) => problem::problem_flaw_number(flaw),
-        LoadAnswer::Malformed(_) => 17,
-        LoadAnswer::OutOfShape => 14,
+impl Refusal for LoadError {
+    ghost says = { load_refusal };
+
+    fn number(self) -> u8 {
+        match self {
+            LoadError::Shape(error) => error.number(),
+            LoadError::Malformed(_) => 17,
+        }
+    }
+
+    fn place(self) -> usize {
+        match self {
+            LoadError::Shape(_) => 0,
+            LoadError::Malformed(at) => at,
+        }
     }
 }
 
-// The answer, and the checkpoint that was loaded; the fresh one of minimum 0 after a refusal.
-#[derive(Clone, Copy)]
-pub struct Loaded {
-    pub answer: LoadAnswer,
-    pub checkpoint: Checkpoint,
+impl From<ProblemFlaw> for LoadError {
+    ghost from_gives = { λ flaw r. r ≡ OfShape (OfProblem flaw) };
+
+    fn from(flaw: ProblemFlaw) -> LoadError {
+        LoadError::Shape(ShapeError::Flawed(flaw))
+    }
 }
 
-// A refused load.
-fn refuse(answer: LoadAnswer) -> Loaded
-    ensures { loading_of result ≡ refused (load_answer answer) }
-{
-    Loaded {
-        answer,
-        checkpoint: Checkpoint::fresh(0),
+impl From<ShapeError> for LoadError {
+    ghost from_gives = { λ error r. r ≡ OfShape error };
+
+    fn from(error: ShapeError) -> LoadError {
+        LoadError::Shape(error)
     }
 }
 
 // The checkpoint that the bytes say, if they are in the form and it is in shape for the two graphs, the substitutes and the search.
 pub fn load_checkpoint<'a>(
-    orders: Orders,
-    labels: Labels<'a>,
-    edges: Edges<'a>,
-    substitutes: &[u8],
+    problem: Problem<'a>,
     connected: bool,
     bytes: &[u8],
-) -> Loaded
-    ensures { loading_of result ≡ loading connected (lent orders labels.entry edges.entry substitutes.now) bytes.now }
+) -> Result<Checkpoint, LoadError>
+    ensures { loading_of result ≡ loading connected (lent problem.entry) bytes.now }
 {
-    match problem::check_problem(orders, labels, edges, substitutes) {
-        ProblemAnswer::Flawed(flaw) => {
-            return refuse(LoadAnswer::Flawed(flaw));
-        }
-        ProblemAnswer::Sound => {}
+    problem.check()?;
+    let order = problem.old.order;
+    if let Some(at) = form::find_fault(order, bytes) {
+        return Err(LoadError::Malformed(at));
     }
-    match form::find_fault(orders[0], bytes) {
-        Form::FaultAt(at) => {
-            return refuse(LoadAnswer::Malformed(at));
-        }
-        Form::Whole => {}
-    }
-    let checkpoint = loader::read_formed(orders[0], bytes);
-    match checkpoint::check_checkpoint(orders, labels, edges, substitutes, connected, checkpoint) {
-        ShapeAnswer::InShape => Loaded {
-            answer: LoadAnswer::InShape,
-            checkpoint,
-        },
-        ShapeAnswer::Flawed(flaw) => refuse(LoadAnswer::Flawed(flaw)),
-        ShapeAnswer::OutOfShape => refuse(LoadAnswer::OutOfShape),
-    }
+    let checkpoint = loader::read_formed(order, bytes);
+    checkpoint.check(problem, connected)?;
+    Ok(checkpoint)
 }

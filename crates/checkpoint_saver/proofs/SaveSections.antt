@@ -1,17 +1,20 @@
 -- A checkpoint's bytes, saved section by section: the header, the path, the mapping that is held and the end.
 use mathlib.Core.Path.{◌≡◌, refl, sym, ap, ap₂, ◌∙◌}
 use mathlib.Core.Bool.{cond}
-use mathlib.Core.List.{List, [], ◌∷◌, ◌++◌}
+use mathlib.Core.List.{List, [], ◌∷◌, ◌++◌, append_assoc}
 use Prim.Native.Nat.{ℕ, ◌+◌, ◌*◌, ◌≤◌, ◌<◌}
 use native.Mathlib.Omega.{arith}
 use borrow.Author.Tests.{le-leb, lt-leb}
-use lib.ListN.{length, set, length-append}
-use lib.Seq.{sets}
+use lib.ListN.{length, take, drop, set, length-append, length-set}
+use lib.Seq.{sets, sets-eq, drop-drop}
+use borrow.Rule.Slice.PartMut.{put_mid}
+use Rattle.little_endian.specs.LittleEndian.{little_endian}
+use Rattle.little_endian.proofs.LittleEndian.{length_little}
 use Rattle.answers.specs.Answer.{accepted, refused}
 use Rattle.answers.specs.Output.{Writing, fill}
 use Rattle.answers.proofs.Stores.{sets_append, sets_front}
 use Rattle.checkpoint.specs.declared.Checkpoint.{Checkpoint}
-use Rattle.checkpoint_saver.specs.Saving.{header_bytes, entry_bytes, checkpoint_bytes}
+use Rattle.checkpoint_saver.specs.Saving.{state_byte, header_bytes, entry_bytes, checkpoint_bytes}
 use Rattle.checkpoint_saver.proofs.SavedLength.{length_header_bytes, length_entry_bytes, saved_length}
 
 -- bytes stored after those at the front
@@ -19,6 +22,21 @@ then_stored : (vs ws buffer l k : List ℕ) (at : ℕ) → l ≡ sets buffer 0 v
 then_stored vs ws buffer l k at p e q =
     let place : at ≡ 0 + length vs = omega arith in
     q ∙ ap₂ (λ (m : List ℕ) (i : ℕ). sets m i ws) p place ∙ sym (sets_append vs ws buffer 0)
+
+-- bytes copied into a part of a buffer
+copied : (l bytes : List ℕ) (i k : ℕ) → length bytes ≡ k → i + k ≤ length l → put_mid i k l bytes ≡ sets l i bytes
+copied l bytes i k e room =
+    rw (drop-drop k i l, ← e) (sym (sets-eq bytes l i (omega arith) ∙ append_assoc (take i l) bytes (drop (i + length bytes) l)))
+
+-- The header stored byte by byte, with the steps copied into their place.
+pub header_stored : (c : Checkpoint) (buffer steps : List ℕ) → 13 ≤ length buffer → steps ≡ little_endian 8 c.steps
+    → let marked = set (set (set buffer 0 16) 1 c.minimum) 2 17 in
+    set (set (put_mid 3 8 marked steps) 11 18) 12 (state_byte c.finished c.holds) ≡ sets buffer 0 (header_bytes c)
+unfolding header_bytes little_endian
+header_stored c buffer steps room e =
+    let marked = set (set (set buffer 0 16) 1 c.minimum) 2 17 in
+    rw e (ap (λ (l : List ℕ). set (set l 11 18) 12 (state_byte c.finished c.holds))
+    (copied marked (little_endian 8 c.steps) 3 8 (length_little 8 c.steps) (simp length-set (omega arith))))
 
 -- an accepted writing
 written : ℕ → List ℕ → Writing

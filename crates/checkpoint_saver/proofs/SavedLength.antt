@@ -1,11 +1,13 @@
 -- How many bytes a saved checkpoint has.
-use mathlib.Core.Path.{◌≡◌, refl, ◌∙◌}
+use mathlib.Core.Path.{◌≡◌, refl, ap₂, ◌∙◌}
 use mathlib.Core.Bool.{Bool, true, false, cond}
 use mathlib.Core.List.{List, [], ◌∷◌, ◌++◌}
-use Prim.Native.Nat.{ℕ, ◌+◌, ◌*◌, ◌≤◌}
+use Prim.Native.Nat.{ℕ, zero, suc, ◌+◌, ◌*◌, ◌≤◌}
 use native.Mathlib.Omega.{arith}
-use lib.ListN.{length, get_or, length-append}
+use lib.ListN.{length, take, get_or, length-append}
+use lib.Seq.{get_or-take}
 use Rattle.little_endian.specs.LittleEndian.{little_endian}
+use Rattle.bounded.specs.Below.{run_below}
 use Rattle.bounded.proofs.Below.{length_run_below, sum_below_same}
 use Rattle.problem.specs.Problem.{Problem, SoundProblem}
 use Rattle.checkpoint.specs.declared.Checkpoint.{Checkpoint}
@@ -20,6 +22,13 @@ length_header_bytes c = refl
 -- Each entry takes two bytes.
 pub length_entry_bytes : (mark : ℕ) (l : List ℕ) (k : ℕ) → length (entry_bytes mark l k) ≡ 2 * k
 length_entry_bytes mark l k = length_run_below k (λ i. mark ∷ get_or l i 0 ∷ []) ∙ sum_below_same k 2
+
+-- The entries at the front of a list are as many of the list.
+pub entry_bytes_front : (mark : ℕ) (l : List ℕ) (n k : ℕ) → k ≤ n → entry_bytes mark (take n l) k ≡ entry_bytes mark l k
+unfolding run_below
+entry_bytes_front mark l n zero h = refl
+entry_bytes_front mark l n (suc k) h =
+    ap₂ (λ (front : List ℕ) (b : ℕ). front ++ (mark ∷ b ∷ [])) (entry_bytes_front mark l n k (omega arith)) (get_or-take n l k 0 h)
 
 -- The header has 13 bytes, the end 1, and each entry 2.
 pub saved_length : (n : ℕ) (c : Checkpoint) → length (checkpoint_bytes n c) ≡ 14 + 2 * c.depth + 2 * cond c.holds n 0

@@ -1,13 +1,13 @@
 -- The bytes of a checkpoint, and saving them into a lent buffer: 01, "Bookmark and calls", last paragraph, and the row "Output" of the refusals;
 -- 02, U1, "Saving and loading a bookmark take the list too", and U7, "else 14, when saved or loaded for this search too".
-use Rattle.std.specs.Prelude.{Bool, cond, List, [], ◌∷◌, ◌++◌, ℕ, ◌+◌, get_or}
+use Rattle.std.specs.Prelude.{Bool, cond, List, [], ◌∷◌, ◌++◌, ℕ, ◌+◌, get_or, Result}
 use Rattle.little_endian.specs.LittleEndian.{little_endian}
 use Rattle.bounded.specs.Below.{run_below}
 use Rattle.answers.specs.Output.{Writing, write_if}
 use Rattle.problem.specs.Problem.{Problem}
 use Rattle.checkpoint.specs.declared.Checkpoint.{Checkpoint}
 use Rattle.checkpoint.specs.Checking.{checkpoint_answer}
-use Rattle.checkpoint_saver.specs.declared.SaveAnswer.{SaveAnswer}
+use Rattle.checkpoint_saver.specs.declared.SaveError.{SaveError}
 use Rattle.checkpoint_saver.specs.Answers.{save_answer}
 
 -- "0 unfinished, 1 unfinished with a matching, 2 finished, 3 finished with one"
@@ -33,7 +33,7 @@ abbrev pub max_bytes : ℕ
 max_bytes = 270
 
 -- the answer, and the buffer afterwards
-abbrev pub saving_of : SaveAnswer → List ℕ → Writing
+abbrev pub saving_of : Result ℕ SaveError → List ℕ → Writing
 saving_of r buffer = record { answer = save_answer r; buffer = buffer }
 
 -- 10, 11, 12, 23 and 24; then 14; then 13; "Writers change only the bytes they fill", and a refusal changes nothing

@@ -4,14 +4,15 @@
 
 mod saver;
 
-ghost use Rattle.std.specs.Prelude.{◌≡◌, cond, ◌≤◌};
-ghost use Rattle.answers.specs.Answer.{refusal_number};
+ghost use Rattle.std.specs.Prelude.{◌≡◌};
 ghost use Rattle.problem.specs.Lent.{lent};
+ghost use Rattle.checkpoint_saver.specs.declared.SaveError.TheVariants.{Shape as OfShape};
 ghost use Rattle.checkpoint_saver.specs.Saving.{state_byte, saving_of, saving};
-ghost use Rattle.checkpoint_saver.specs.Answers.{save_answer};
+ghost use Rattle.checkpoint_saver.specs.Answers.{save_refusal};
 
-use checkpoint::{Checkpoint, ShapeAnswer};
-use problem::{Edges, Labels, Orders, ProblemFlaw};
+use answers::Refusal;
+use checkpoint::{Checkpoint, ShapeError};
+use problem::Problem;
 
 // The marks: before the minimum, the steps, the state, each entry of the path and each of the incumbent; and the end.
 pub const MINIMUM_MARK: u8 = 16;
@@ -29,24 +30,33 @@ pub const END: u8 = 0;
 // How many bytes stand before the entries.
 pub const HEADER: usize = 13;
 
-// The answer of `save_checkpoint`: how many bytes were written, or a refusal.
-#[derive(Clone, Copy)]
-pub enum SaveAnswer {
-    Written(usize),
-    Flawed(ProblemFlaw),
-    OutOfShape,
+// Why no checkpoint was saved.
+#[derive(Clone, Copy, Debug, PartialEq, Eq)]
+pub enum SaveError {
+    Shape(ShapeError),
     TooShort,
 }
 
-// The document's number of a refusal, and 0 where bytes were written.
-pub fn save_number(answer: SaveAnswer) -> u8
-    ensures { result ≡ refusal_number (save_answer answer) }
-{
-    match answer {
-        SaveAnswer::Written(_) => 0,
-        SaveAnswer::Flawed(flaw) => problem::problem_flaw_number(flaw),
-        SaveAnswer::OutOfShape => 14,
-        SaveAnswer::TooShort => 13,
+impl Refusal for SaveError {
+    ghost says = { save_refusal };
+
+    fn number(self) -> u8 {
+        match self {
+            SaveError::Shape(error) => error.number(),
+            SaveError::TooShort => 13,
+        }
+    }
+
+    fn place(self) -> usize {
+        0
+    }
+}
+
+impl From<ShapeError> for SaveError {
+    ghost from_gives = { λ error r. r ≡ OfShape error };
+
+    fn from(error: ShapeError) -> SaveError {
+        SaveError::Shape(error)
     }
 }
 
@@ -54,44 +64,18 @@ pub fn save_number(answer: SaveAnswer) -> u8
 pub fn state_byte(finished: bool, holds: bool) -> u8
     ensures { result ≡ state_byte finished holds }
 {
-    if finished {
-        if holds {
-            return 3;
-        }
-        return 2;
-    }
-    if holds {
-        return 1;
-    }
-    0
+    2 * u8::from(finished) + u8::from(holds)
 }
 
-// How many entries of the incumbent the bytes have.
-fn incumbent_entries(order: usize, holds: bool) -> usize
-    ensures { (result ≡ cond holds order 0) × (result ≤ order) }
-{
-    if holds {
-        return order;
-    }
-    0
-}
-
-// Writes the bytes of a checkpoint of the first search, or of the connected one, to the front of `out`.
+// Writes the bytes of a checkpoint of the first search, or of the connected one, to the front of `out`, and returns how many they are.
 pub fn save_checkpoint<'a>(
-    orders: Orders,
-    labels: Labels<'a>,
-    edges: Edges<'a>,
-    substitutes: &[u8],
+    problem: Problem<'a>,
     connected: bool,
     checkpoint: Checkpoint,
     out: &mut [u8],
-) -> SaveAnswer
-    ensures { saving_of result out.new
-        ≡ saving connected (lent orders labels.entry edges.entry substitutes.now) checkpoint out.old }
+) -> Result<usize, SaveError>
+    ensures { saving_of result out.new ≡ saving connected (lent problem.entry) checkpoint out.old }
 {
-    match checkpoint::check_checkpoint(orders, labels, edges, substitutes, connected, checkpoint) {
-        ShapeAnswer::Flawed(flaw) => SaveAnswer::Flawed(flaw),
-        ShapeAnswer::OutOfShape => SaveAnswer::OutOfShape,
-        ShapeAnswer::InShape => saver::save_in_shape(orders[0], checkpoint, out),
-    }
+    checkpoint.check(problem, connected)?;
+    saver::save_in_shape(problem.old.order, &checkpoint, out)
 }

@@ -4,7 +4,7 @@ ghost use Rattle.std.specs.Prelude.{◌≡◌, [], ◌+◌, ◌-◌, ◌*◌, �
 ghost use Rattle.std.proofs.Math.Option.{none};
 ghost use Rattle.clique.specs.Branching.{keep_larger, branch_row, branch_choices};
 ghost use Rattle.clique.specs.LentRules.{lent_rules, choices_of};
-ghost use Rattle.clique.specs.Carried.{Small, Decided, incumbent_as, Becomes};
+ghost use Rattle.clique.specs.Carried.{Decided, incumbent_as, Becomes};
 
 use super::MAX_OLD;
 use super::candidates::Allowed;
@@ -41,7 +41,7 @@ impl<'a> Allowed<'a> {
         pairs: usize,
         held: Incumbent,
     ) -> Incumbent
-        requires { Small self.problem self.sets.now × (depth ≤ self.problem.old.order) × Decided path depth pairs }
+        requires { (depth ≤ self.problem.old.order) × Decided path depth pairs }
         ensures { Becomes held (λ minimum. branch_row (lent_rules self.entry.problem self.entry.sets.now) minimum
             (2 * (self.entry.problem.old.order - depth)) (take depth path)) result }
     {
@@ -62,7 +62,7 @@ impl<'a> Allowed<'a> {
         candidates: u64,
         held: Incumbent,
     ) -> Incumbent
-        requires { Small self.problem self.sets.now × (depth < self.problem.old.order) × Decided path depth pairs }
+        requires { (depth < self.problem.old.order) × Decided path depth pairs }
         ensures { Becomes held (λ minimum. branch_choices (lent_rules self.entry.problem self.entry.sets.now) minimum
             (2 * (self.entry.problem.old.order - (depth + 1)) + 1) (take depth path) (choices_of candidates)) result }
     {
@@ -83,7 +83,6 @@ impl<'a> Allowed<'a> {
 
     // The whole search.
     pub fn branch(self, minimum: u8) -> Incumbent
-        requires { Small self.problem self.sets.now }
         ensures { result ≡ incumbent_as minimum (branch_row (lent_rules self.entry.problem self.entry.sets.now) minimum (2 * self.entry.problem.old.order) [] none) }
     {
         let held = Incumbent {

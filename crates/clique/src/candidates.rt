@@ -4,8 +4,9 @@ ghost use Rattle.std.specs.Prelude.{◌≡◌, ◌||◌, ◌≤◌, ◌<◌, eqb
 ghost use Rattle.bounded.specs.Below.{all_below, some_below};
 ghost use Rattle.bitset.specs.Members.{set_of};
 ghost use Rattle.problem.specs.Problem.{compare_edges};
-ghost use Rattle.problem.specs.Lent.{lent, EdgesLong};
+ghost use Rattle.problem.specs.Lent.{lent};
 ghost use Rattle.mapping.specs.Check.{EntriesBelow};
+ghost use Rattle.clique.specs.Carried.{Small};
 ghost use Rattle.clique.specs.LentRules.{edge_fits, lent_candidate};
 
 use super::MAX_OLD;
@@ -30,12 +31,13 @@ pub fn taken(path: [u8; MAX_OLD], depth: usize) -> u64
 pub struct Allowed<'a> {
     pub problem: Problem<'a>,
     pub sets: &'a [u64; MAX_ORDER],
+    pub ghost small: { Small problem sets.now },
 }
 
 impl<'a> Allowed<'a> {
     // Whether an earlier row with this entry is left out, or its edge to the row is that of its vertex to this one.
     fn edge_fits(self, earlier: OldVertex, entry: u8, row: OldVertex, vertex: NewVertex) -> bool
-        requires { EdgesLong self.problem × (earlier.0 < 64) × (row.0 < 64) × (vertex.0 < 64) × ((entry ≡ 255 → ⊥) → entry < 64) }
+        requires { (earlier.0 < 64) × (row.0 < 64) × (vertex.0 < 64) × ((entry ≡ 255 → ⊥) → entry < 64) }
         ensures { result ≡ (eqb entry 255 || compare_edges (lent self.entry.problem) earlier.0 row.0 entry vertex.0) }
     {
         if entry == UNMAPPED {
@@ -52,7 +54,7 @@ impl<'a> Allowed<'a> {
 
     // The same of every row before it.
     fn edges_fit(self, path: [u8; MAX_OLD], row: OldVertex, vertex: NewVertex) -> bool
-        requires { EdgesLong self.problem × (row.0 < 8) × (vertex.0 < 64) × EntriesBelow path row.0 }
+        requires { (row.0 < 8) × (vertex.0 < 64) × EntriesBelow path row.0 }
         ensures { result ≡ all_below row.0 (edge_fits self.entry.problem path row.0 vertex.0) }
     {
         for i in 0..row.0 {
@@ -65,7 +67,7 @@ impl<'a> Allowed<'a> {
 
     // The candidates of the row: of the vertices that it may lie on, those that are free and whose edges fit.
     pub fn candidates(self, path: [u8; MAX_OLD], row: OldVertex) -> u64
-        requires { EdgesLong self.problem × (row.0 < 8) × EntriesBelow path row.0 }
+        requires { (row.0 < 8) × EntriesBelow path row.0 }
         ensures { result ≡ set_of 64 (lent_candidate self.entry.problem self.entry.sets.now path row.0) }
     {
         let mut rest = bitset::difference(self.sets[row.0], taken(path, row.0));

@@ -3,54 +3,53 @@
 
 #![tactic(auto)]
 
-mod lines;
+mod tables;
 
-use graph::Label;
-use graph_reader::ReadAnswer;
+use answers::Refusal;
 use std::io;
+use tables::Tables;
 
-// The graph's order. Bytes that hold no graph are told of in the output.
-fn read(
+// Prints the case's name, and the mapping that is held, a byte for each old vertex and then the bytes left over, or none, or the refusal's number.
+fn branch(
     rt: &impl Print,
-    bytes: &[u8],
-    labels: &mut [Label],
-    edges: &mut [u8],
-) -> io::Result<usize> {
-    match graph_reader::read_graph(bytes, labels, edges) {
-        ReadAnswer::Order(order) => Ok(order),
-        _ => {
-            lines::word(rt, b"no graph\n")?;
-            Ok(0)
+    name: &str,
+    old: &Tables,
+    new: &Tables,
+    substitutes: &[u8],
+    minimum: u8,
+) -> io::Result<()> {
+    let problem = tables::lend(old, new, substitutes);
+    match clique::branch(problem, minimum) {
+        Ok(Some(mapping)) => {
+            print!(rt; "{name}: mapping")?;
+            for (vertex, image) in mapping.iter().enumerate() {
+                if vertex == old.order {
+                    print!(rt; ", rest")?;
+                }
+                print!(rt; " {image}")?;
+            }
+            println!(rt;)
         }
+        Ok(None) => println!(rt; "{name}: none"),
+        Err(error) => println!(rt; "{name}: refused {}", error.number()),
     }
 }
 
 fn case(
     rt: &impl Print,
-    name: &[u8],
+    name: &str,
     old: &[u8],
     new: &[u8],
     substitutes: &[u8],
     minimum: u8,
 ) -> io::Result<()> {
-    let mut old_labels = [0u16; 64];
-    let mut old_edges = [0u8; 4096];
-    let mut new_labels = [0u16; 64];
-    let mut new_edges = [0u8; 4096];
-    let old_order = read(rt, old, &mut old_labels, &mut old_edges)?;
-    let new_order = read(rt, new, &mut new_labels, &mut new_edges)?;
-    let branched = clique::branch(
-        [old_order, new_order],
-        [&old_labels, &new_labels],
-        [&old_edges, &new_edges],
-        substitutes,
-        minimum,
-    );
-    lines::write_line(rt, name, branched, old_order)
+    let old = Tables::read(rt, old)?;
+    let new = Tables::read(rt, new)?;
+    branch(rt, name, &old, &new, substitutes, minimum)
 }
 
 // 01's pair P. Old kinds 7, 9, 7, links 0-1 and 1-2 of kind 1; new kinds 9, 7, link 0-1 of kind 1.
-fn on_p(rt: &impl Print, name: &[u8], minimum: u8) -> io::Result<()> {
+fn on_p(rt: &impl Print, name: &str, minimum: u8) -> io::Result<()> {
     case(
         rt,
         name,
@@ -62,14 +61,14 @@ fn on_p(rt: &impl Print, name: &[u8], minimum: u8) -> io::Result<()> {
 }
 
 fn minimums(rt: &impl Print) -> io::Result<()> {
-    on_p(rt, b"01's pair, floor 0", 0)?;
-    on_p(rt, b"01's pair, floor 1", 1)?;
-    on_p(rt, b"01's pair, floor 2", 2)?;
-    on_p(rt, b"01's pair, floor 3", 3)?;
-    on_p(rt, b"01's pair, floor 255", 255)?;
+    on_p(rt, "01's pair, floor 0", 0)?;
+    on_p(rt, "01's pair, floor 1", 1)?;
+    on_p(rt, "01's pair, floor 2", 2)?;
+    on_p(rt, "01's pair, floor 3", 3)?;
+    on_p(rt, "01's pair, floor 255", 255)?;
     case(
         rt,
-        b"both empty, floor 0",
+        "both empty, floor 0",
         b"\x04\x02\x00",
         b"\x04\x02\x00",
         b"",
@@ -77,7 +76,7 @@ fn minimums(rt: &impl Print) -> io::Result<()> {
     )?;
     case(
         rt,
-        b"both empty, floor 1",
+        "both empty, floor 1",
         b"\x04\x02\x00",
         b"\x04\x02\x00",
         b"",
@@ -89,7 +88,7 @@ fn minimums(rt: &impl Print) -> io::Result<()> {
 fn first_held(rt: &impl Print) -> io::Result<()> {
     case(
         rt,
-        b"one against two",
+        "one against two",
         b"\x04\x02\x03\x07\x00\x00",
         b"\x04\x02\x03\x07\x00\x03\x07\x00\x00",
         b"",
@@ -97,7 +96,7 @@ fn first_held(rt: &impl Print) -> io::Result<()> {
     )?;
     case(
         rt,
-        b"two against one",
+        "two against one",
         b"\x04\x02\x03\x07\x00\x03\x07\x00\x00",
         b"\x04\x02\x03\x07\x00\x00",
         b"",
@@ -106,7 +105,7 @@ fn first_held(rt: &impl Print) -> io::Result<()> {
     // C is 7 7 7 with link 0-1, which leaves part 2 loose
     case(
         rt,
-        b"C on itself",
+        "C on itself",
         b"\x04\x02\x03\x07\x00\x03\x07\x00\x03\x07\x00\x02\x00\x01\x01\x00",
         b"\x04\x02\x03\x07\x00\x03\x07\x00\x03\x07\x00\x02\x00\x01\x01\x00",
         b"",
@@ -118,7 +117,7 @@ fn first_held(rt: &impl Print) -> io::Result<()> {
 fn larger_later(rt: &impl Print) -> io::Result<()> {
     case(
         rt,
-        b"the second partner leaves more",
+        "the second partner leaves more",
         b"\x04\x02\x03\x07\x00\x03\x08\x00\x03\x09\x00\x00",
         b"\x04\x02\x03\x07\x00\x03\x07\x00\x03\x08\x00\x03\x09\x00\x02\x00\x02\x01\x02\x00\x03\x01\x00",
         b"",
@@ -126,7 +125,7 @@ fn larger_later(rt: &impl Print) -> io::Result<()> {
     )?;
     case(
         rt,
-        b"left out leaves more",
+        "left out leaves more",
         b"\x04\x02\x03\x07\x00\x03\x08\x00\x03\x09\x00\x00",
         b"\x04\x02\x03\x07\x00\x03\x08\x00\x03\x09\x00\x02\x00\x01\x01\x02\x00\x02\x01\x00",
         b"",
@@ -138,7 +137,7 @@ fn larger_later(rt: &impl Print) -> io::Result<()> {
 fn links(rt: &impl Print) -> io::Result<()> {
     case(
         rt,
-        b"linked against unlinked",
+        "linked against unlinked",
         b"\x04\x02\x03\x07\x00\x03\x09\x00\x02\x00\x01\x01\x00",
         b"\x04\x02\x03\x07\x00\x03\x09\x00\x00",
         b"",
@@ -146,7 +145,7 @@ fn links(rt: &impl Print) -> io::Result<()> {
     )?;
     case(
         rt,
-        b"unlinked against linked",
+        "unlinked against linked",
         b"\x04\x02\x03\x07\x00\x03\x07\x00\x00",
         b"\x04\x02\x03\x07\x00\x03\x07\x00\x02\x00\x01\x01\x00",
         b"",
@@ -154,7 +153,7 @@ fn links(rt: &impl Print) -> io::Result<()> {
     )?;
     case(
         rt,
-        b"row 2 fits row 1 and not row 0",
+        "row 2 fits row 1 and not row 0",
         b"\x04\x02\x03\x07\x00\x03\x08\x00\x03\x09\x00\x02\x00\x02\x01\x00",
         b"\x04\x02\x03\x07\x00\x03\x08\x00\x03\x09\x00\x00",
         b"",
@@ -163,7 +162,7 @@ fn links(rt: &impl Print) -> io::Result<()> {
 }
 
 // A part of kind 7 with a link to itself, and one without.
-fn on_own_and_none(rt: &impl Print, name: &[u8], minimum: u8) -> io::Result<()> {
+fn on_own_and_none(rt: &impl Print, name: &str, minimum: u8) -> io::Result<()> {
     case(
         rt,
         name,
@@ -175,12 +174,12 @@ fn on_own_and_none(rt: &impl Print, name: &[u8], minimum: u8) -> io::Result<()> 
 }
 
 fn own_links(rt: &impl Print) -> io::Result<()> {
-    on_own_and_none(rt, b"own link against none, floor 0", 0)?;
-    on_own_and_none(rt, b"own link against none, floor 1", 1)?;
+    on_own_and_none(rt, "own link against none, floor 0", 0)?;
+    on_own_and_none(rt, "own link against none, floor 1", 1)?;
     // the link of the two old parts is the new part's own
     case(
         rt,
-        b"one new part serves once",
+        "one new part serves once",
         b"\x04\x02\x03\x07\x00\x03\x07\x00\x02\x00\x00\x05\x02\x01\x01\x05\x02\x00\x01\x05\x00",
         b"\x04\x02\x03\x07\x00\x02\x00\x00\x05\x00",
         b"",
@@ -188,7 +187,7 @@ fn own_links(rt: &impl Print) -> io::Result<()> {
     )?;
     case(
         rt,
-        b"own link of the first against own link of the second",
+        "own link of the first against own link of the second",
         b"\x04\x02\x03\x07\x00\x03\x07\x00\x02\x00\x00\x01\x00",
         b"\x04\x02\x03\x07\x00\x03\x07\x00\x02\x01\x01\x01\x00",
         b"",
@@ -199,7 +198,7 @@ fn own_links(rt: &impl Print) -> io::Result<()> {
 // One part of kind 7, and one of kind 9.
 fn on_seven_and_nine(
     rt: &impl Print,
-    name: &[u8],
+    name: &str,
     substitutes: &[u8],
     minimum: u8,
 ) -> io::Result<()> {
@@ -214,18 +213,18 @@ fn on_seven_and_nine(
 }
 
 fn substitutes(rt: &impl Print) -> io::Result<()> {
-    on_seven_and_nine(rt, b"substitutes 7 9", b"\x07\x00\x09\x00", 1)?;
-    on_seven_and_nine(rt, b"substitutes 9 7, floor 0", b"\x09\x00\x07\x00", 0)?;
-    on_seven_and_nine(rt, b"substitutes 9 7, floor 1", b"\x09\x00\x07\x00", 1)?;
+    on_seven_and_nine(rt, "substitutes 7 9", b"\x07\x00\x09\x00", 1)?;
+    on_seven_and_nine(rt, "substitutes 9 7, floor 0", b"\x09\x00\x07\x00", 0)?;
+    on_seven_and_nine(rt, "substitutes 9 7, floor 1", b"\x09\x00\x07\x00", 1)?;
     on_seven_and_nine(
         rt,
-        b"substitutes 7 8 8 9, no chain",
+        "substitutes 7 8 8 9, no chain",
         b"\x07\x00\x08\x00\x08\x00\x09\x00",
         1,
     )?;
     case(
         rt,
-        b"links have no substitutes",
+        "links have no substitutes",
         b"\x04\x02\x03\x07\x00\x03\x07\x00\x02\x00\x01\x07\x00",
         b"\x04\x02\x03\x09\x00\x03\x09\x00\x02\x00\x01\x09\x00",
         b"\x07\x00\x09\x00",
@@ -234,7 +233,7 @@ fn substitutes(rt: &impl Print) -> io::Result<()> {
 }
 
 // Old kinds 263 and 7 against the new kinds 7 and 519: all have the low byte 7.
-fn on_low_bytes(rt: &impl Print, name: &[u8], substitutes: &[u8]) -> io::Result<()> {
+fn on_low_bytes(rt: &impl Print, name: &str, substitutes: &[u8]) -> io::Result<()> {
     case(
         rt,
         name,
@@ -246,21 +245,21 @@ fn on_low_bytes(rt: &impl Print, name: &[u8], substitutes: &[u8]) -> io::Result<
 }
 
 fn wide_kinds(rt: &impl Print) -> io::Result<()> {
-    on_low_bytes(rt, b"kinds of one low byte", b"")?;
+    on_low_bytes(rt, "kinds of one low byte", b"")?;
     on_low_bytes(
         rt,
-        b"kinds of one low byte, substitutes 263 519",
+        "kinds of one low byte, substitutes 263 519",
         b"\x07\x01\x07\x02",
     )?;
     on_low_bytes(
         rt,
-        b"kinds of one low byte, substitutes 519 263",
+        "kinds of one low byte, substitutes 519 263",
         b"\x07\x02\x07\x01",
     )
 }
 
 // Old kinds 1 to 8, new kinds 8 to 1.
-fn on_eight(rt: &impl Print, name: &[u8], minimum: u8) -> io::Result<()> {
+fn on_eight(rt: &impl Print, name: &str, minimum: u8) -> io::Result<()> {
     case(
         rt,
         name,
@@ -272,11 +271,11 @@ fn on_eight(rt: &impl Print, name: &[u8], minimum: u8) -> io::Result<()> {
 }
 
 fn eight_old(rt: &impl Print) -> io::Result<()> {
-    on_eight(rt, b"eight, floor 8", 8)?;
-    on_eight(rt, b"eight, floor 9", 9)?;
+    on_eight(rt, "eight, floor 8", 8)?;
+    on_eight(rt, "eight, floor 9", 9)?;
     case(
         rt,
-        b"eight against two",
+        "eight against two",
         b"\x04\x02\x03\x07\x00\x03\x07\x00\x03\x07\x00\x03\x07\x00\x03\x07\x00\x03\x07\x00\x03\x07\x00\x03\x07\x00\x00",
         b"\x04\x02\x03\x07\x00\x03\x07\x00\x00",
         b"",
@@ -284,7 +283,7 @@ fn eight_old(rt: &impl Print) -> io::Result<()> {
     )?;
     case(
         rt,
-        b"one against nine",
+        "one against nine",
         b"\x04\x02\x03\x07\x00\x00",
         b"\x04\x02\x03\x07\x00\x03\x07\x00\x03\x07\x00\x03\x07\x00\x03\x07\x00\x03\x07\x00\x03\x07\x00\x03\x07\x00\x03\x07\x00\x00",
         b"",
@@ -292,74 +291,44 @@ fn eight_old(rt: &impl Print) -> io::Result<()> {
     )
 }
 
-// Nine old parts of kind 7 against none, with this kind of a part 63 and this link of it with itself: both are 0 in a sound chart of nine.
-fn on_nine(
-    rt: &impl Print,
-    name: &[u8],
-    order: usize,
-    label: Label,
-    edge: u8,
-    substitutes: &[u8],
-) -> io::Result<()> {
-    let mut old_labels = [0u16; 64];
-    let mut old_edges = [0u8; 4096];
-    let new_labels = [0u16; 64];
-    let new_edges = [0u8; 4096];
-    read(
-        rt,
-        b"\x04\x02\x03\x07\x00\x03\x07\x00\x03\x07\x00\x03\x07\x00\x03\x07\x00\x03\x07\x00\x03\x07\x00\x03\x07\x00\x03\x07\x00\x00",
-        &mut old_labels,
-        &mut old_edges,
-    )?;
-    old_labels[63] = label;
-    old_edges[4095] = edge;
-    let branched = clique::branch(
-        [order, 0],
-        [&old_labels, &new_labels],
-        [&old_edges, &new_edges],
-        substitutes,
-        255,
-    );
-    lines::write_line(rt, name, branched, order)
+// Old parts against none.
+fn on_old(rt: &impl Print, name: &str, old: &Tables, substitutes: &[u8]) -> io::Result<()> {
+    branch(rt, name, old, &Tables::empty(), substitutes, 255)
 }
 
 fn nine_old(rt: &impl Print) -> io::Result<()> {
-    on_nine(rt, b"nine", 9, 0, 0, b"")?;
-    on_nine(
+    let mut nine = Tables::read(
         rt,
-        b"nine, and substitutes 7 9",
-        9,
-        0,
-        0,
-        b"\x07\x00\x09\x00",
+        b"\x04\x02\x03\x07\x00\x03\x07\x00\x03\x07\x00\x03\x07\x00\x03\x07\x00\x03\x07\x00\x03\x07\x00\x03\x07\x00\x03\x07\x00\x00",
     )?;
-    on_nine(
+    on_old(rt, "nine", &nine, b"")?;
+    on_old(rt, "nine, and substitutes 7 9", &nine, b"\x07\x00\x09\x00")?;
+    on_old(
         rt,
-        b"nine, and a label 0 in the substitutes",
-        9,
-        0,
-        0,
+        "nine, and a label 0 in the substitutes",
+        &nine,
         b"\x07\x00\x00\x00",
     )?;
-    on_nine(rt, b"nine, and one byte of substitutes", 9, 0, 0, b"\x07")?;
-    on_nine(
+    on_old(rt, "nine, and one byte of substitutes", &nine, b"\x07")?;
+    on_old(
         rt,
-        b"nine, and six bytes with a label 0",
-        9,
-        0,
-        0,
+        "nine, and six bytes with a label 0",
+        &nine,
         b"\x07\x00\x00\x00\x07\x00",
     )?;
-    on_nine(rt, b"nine, and links unsound", 9, 0, 1, b"")?;
-    on_nine(
+    // the kind of a part 63 and its link with itself, which are 0 in a sound chart of nine
+    nine.edges[4095] = 1;
+    on_old(rt, "nine, and links unsound", &nine, b"")?;
+    nine.labels[63] = 7;
+    on_old(
         rt,
-        b"nine, kinds and links unsound, one byte of substitutes",
-        9,
-        7,
-        1,
+        "nine, kinds and links unsound, one byte of substitutes",
+        &nine,
         b"\x07",
     )?;
-    on_nine(rt, b"order 65, and kinds unsound", 65, 7, 0, b"")
+    nine.order = 65;
+    nine.edges[4095] = 0;
+    on_old(rt, "order 65, and kinds unsound", &nine, b"")
 }
 
 fn main(rt: HostRuntime) -> io::Result<()> {

@@ -1,9 +1,7 @@
 -- Whether the mapped old vertices hang together, as a test that computes, on sets of vertices as words (02, U7).
-use Rattle.std.specs.Prelude.{◌≡◌, Bool, false, not, ◌&&◌, ◌||◌, List, ℕ, zero, suc, ◌<◌, eqb, ltb, length, get_or}
+use Rattle.std.specs.Prelude.{◌≡◌, Bool, false, not, ◌&&◌, ◌||◌, List, ℕ, zero, suc, ◌<◌, eqb, ltb, length, get_or, Option, Some, None}
 use Rattle.bitset.specs.Members.{set_of, meet_of, union_of, difference_of}
 use Rattle.bitset.specs.Least.{least_member, without_least}
-use Rattle.std.specs.Prelude.{Option}
-use Rattle.std.specs.Prelude.{Some, None}
 use Rattle.graph.specs.Graph.{place}
 use Rattle.mapping.specs.Common.{unmapped}
 

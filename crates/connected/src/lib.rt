@@ -2,7 +2,8 @@
 
 #![tactic(auto)]
 
-ghost use Rattle.std.specs.Prelude.{◌≡◌, ◌<◌, get_or};
+ghost use Rattle.std.specs.Prelude.{◌≡◌, Bool, ℕ, ◌<◌, get_or};
+ghost use Rattle.bitset.specs.Members.{set_of};
 ghost use Rattle.connected.specs.Spreading.{adjacent as adjacent_in, neighbours as neighbours_in, Neighbours, is_mapped, mapped_set};
 ghost use Rattle.connected.specs.Spreading.{connected_set, is_connected};
 
@@ -20,17 +21,30 @@ fn adjacent(edges: &[u8], from: OldVertex, to: OldVertex) -> bool
     u != v && at < edges.len() && edges[at] != 0
 }
 
+// The set of the numbers below 64 that pass a test.
+fn set_where<F: Fn(usize) -> bool>(test: F) -> u64
+    requires { (i : ℕ) → i < 64 → F.pre test i }
+    ensures { (passes : ℕ → Bool) → ((i : ℕ) → i < 64 → (b : Bool) → F.post test i b → b ≡ passes i) → result ≡ set_of 64 passes }
+{
+    let mut set = 0;
+    for i in 0..MAX_ORDER {
+        if test(i) {
+            set = bitset::with(set, i);
+        }
+    }
+    set
+}
+
 fn neighbours_of(edges: &[u8], vertex: OldVertex) -> u64
     requires { vertex.0 < 64 }
     ensures { result ≡ neighbours_in edges.now vertex.0 }
 {
-    let mut set = 0;
-    for u in 0..MAX_ORDER {
-        if adjacent(edges, vertex, OldVertex(u)) {
-            set = bitset::with(set, u);
-        }
-    }
-    set
+    set_where(
+        |u| -> bool
+            requires { (u < 64) × (vertex.0 < 64) }
+            ensures { result ≡ adjacent_in edges.entry.now vertex.0 u }
+        { adjacent(edges, vertex, OldVertex(u)) },
+    )
 }
 
 // The set of its neighbours for each vertex: those that an edge joins with it.
@@ -54,13 +68,11 @@ fn is_mapped(mapping: &[u8], vertex: OldVertex) -> bool
 fn mapped_set(mapping: &[u8]) -> u64
     ensures { result ≡ mapped_set mapping.now }
 {
-    let mut set = 0;
-    for v in 0..MAX_ORDER {
-        if is_mapped(mapping, OldVertex(v)) {
-            set = bitset::with(set, v);
-        }
-    }
-    set
+    set_where(
+        |v| -> bool
+            ensures { result ≡ is_mapped mapping.entry.now v }
+        { is_mapped(mapping, OldVertex(v)) },
+    )
 }
 
 // Whether a set of vertices hangs together: its least vertex spreads to its neighbours within the set, and these to theirs, each vertex once.

@@ -1,11 +1,10 @@
 -- The loop of a descent call, a search call a turn: what is left to do from here, after the visits made, is the whole call (`CallTurn`).
 use mathlib.Core.Path.{◌≡◌, refl, sym, ap, ◌∙◌}
 use mathlib.Core.Bool.{Bool, true, false, true≢false}
-use mathlib.Core.List.{List, [], ◌∷◌}
+use mathlib.Core.List.{List, []}
 use Prim.Native.Nat.{ℕ, ◌+◌, ◌-◌, ◌^◌, ◌≤◌, ◌<◌}
 use native.Mathlib.Omega.{arith}
 use native.Mathlib.Nat.{zero-add, add_assoc}
-use denote.Enum.Declared.{tag_of}
 use lib.ListN.{length}
 use Rattle.answers.specs.Answer.{Answer, accepted, refused, is_refused, value_of}
 use Rattle.problem.specs.Problem.{Problem}
@@ -19,7 +18,7 @@ use Rattle.search.specs.declared.Searched.{Searched}
 use Rattle.std.specs.Prelude.{Ok, Err}
 use Rattle.search.specs.declared.SearchError.{SearchError}
 use Rattle.search.proofs.SearchErrors.{no_ceiling}
-use Rattle.search.specs.Answers.{search_answer, called_of}
+use Rattle.search.specs.Answers.{search_refusal, search_answer, called_of}
 use Rattle.search.specs.Call as SearchCall
 use Rattle.search.specs.Call.{Called, cleared, refuse, search_call}
 use Rattle.search.proofs.CallRefusals.{Taken, CallWays, refuses, accepts, call_ways}
@@ -108,8 +107,8 @@ module _ {connected : Bool} {P : Problem} {floor : ℕ} {c : Checkpoint} {budget
     ended answer = ending answer (called_of r words')
 
     -- A refusal is the whole call's.
-    pub turn_refused : (e : SearchError) → r.answer ≡ Err e → ended (search_answer r.answer) ≡ descend_call connected P floor c budget workspace
-    turn_refused error arm = go (call_ways connected P at left words)
+    pub turn_refused : (e : SearchError) → r.answer ≡ Err e → ended (search_refusal e) ≡ descend_call connected P floor c budget workspace
+    turn_refused error arm = ap (λ (a : Answer). ended a) (ap search_answer (sym arm)) ∙ go (call_ways connected P at left words)
       where
         go : CallWays connected P at left words → ended (search_answer r.answer) ≡ descend_call connected P floor c budget workspace
         go (refuses number e) =

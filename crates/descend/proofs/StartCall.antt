@@ -1,11 +1,10 @@
 -- The start of a descent, by a search call that makes no visit: refused for the graphs or the list, or with a ceiling one above the root's upper bound.
 use mathlib.Core.Path.{◌≡◌, refl, sym, ap, ◌∙◌}
 use mathlib.Core.Bool.{false, true≢false}
-use mathlib.Core.List.{List, [], ◌∷◌}
+use mathlib.Core.List.{List, []}
 use mathlib.Core.Option.{none}
 use Prim.Native.Nat.{ℕ, ◌+◌, ◌-◌, ◌≤◌, min, max}
 use native.Mathlib.Omega.{arith}
-use denote.Enum.Declared.{tag_of}
 use lib.Dec.{lit<}
 use lib.ListN.{length}
 use Rattle.answers.specs.Answer.{Answer, passed, accepted, refused, refused_at, is_refused, value_of}

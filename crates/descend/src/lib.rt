@@ -41,7 +41,7 @@ fn lowered(order: usize, checkpoint: Checkpoint, top: usize) -> usize
             return top;
         }
     }
-    top.min(minimum + 1)
+    (minimum + 1).min(top)
 }
 
 // The largest conceivable minimum, from both orders and the root's upper bound, but not below the floor.
@@ -50,7 +50,7 @@ fn first_minimum(old_order: usize, new_order: usize, bound: usize, floor: u8) ->
     ensures { result ≡ max floor (min (min old_order new_order) bound) }
 {
     let most = old_order.min(new_order).min(bound);
-    most.max(floor as usize) as u8
+    (floor as usize).max(most) as u8
 }
 
 // The start of a descent: the ceiling there, and the fresh checkpoint of its first minimum.
@@ -62,10 +62,9 @@ pub fn start<'a>(problem: Problem<'a>, floor: u8) -> Searched
     let root = search::search(problem, false, Checkpoint::fresh(0), 0, &mut workspace);
     match root.answer {
         Ok(top) => {
-            let minimum =
-                first_minimum(problem.old.order, problem.new.order, top - 1, floor);
+            let minimum = first_minimum(problem.old.order, problem.new.order, top - 1, floor);
             let checkpoint = Checkpoint::fresh(minimum);
-            let own = top.max(minimum as usize);
+            let own = (minimum as usize).max(top);
             Searched {
                 answer: Ok(lowered(problem.old.order, checkpoint, own)),
                 checkpoint,

@@ -10,15 +10,14 @@ ghost use Rattle.descent_replies.specs.Apart.{DescendedBy};
 ghost use Rattle.descent_replies.specs.DescentReply.{save_start, descent_reply, descend_and_save, descend_bytes};
 
 use checkpoint::Checkpoint;
-use checkpoint_loader::LoadAnswer;
-use checkpoint_saver::SaveAnswer;
+use checkpoint_saver::SaveError;
 use descend::Descended;
-use problem::{Edges, Labels, Orders};
+use problem::Problem;
 use replies::Reply;
-use search::{SearchAnswer, WORDS};
+use search::WORDS;
 
 // A reply, the ceiling, and the visits made.
-#[derive(Clone, Copy)]
+#[derive(Clone, Copy, Debug, PartialEq, Eq)]
 pub struct DescentNumbers {
     pub reply: Reply,
     pub ceiling: u64,
@@ -27,28 +26,21 @@ pub struct DescentNumbers {
 
 // The start of a descent, its checkpoint saved to the front of `out`.
 pub fn start<'a>(
-    orders: Orders,
-    labels: Labels<'a>,
-    edges: Edges<'a>,
-    substitutes: &[u8],
+    problem: Problem<'a>,
     connected: bool,
     floor: u8,
     out: &mut [u8],
-) -> SaveAnswer
-    ensures { saving_of result out.new
-        ≡ save_start connected (lent orders labels.entry edges.entry substitutes.now) floor out.old }
+) -> Result<usize, SaveError>
+    ensures { saving_of result out.new ≡ save_start connected (lent problem.entry) floor out.old }
 {
-    let started = descend::start(orders, labels, edges, substitutes, floor);
+    let started = descend::start(problem, floor);
     let first = started.checkpoint;
-    checkpoint_saver::save_checkpoint(orders, labels, edges, substitutes, connected, first, out)
+    checkpoint_saver::save_checkpoint(problem, connected, first, out)
 }
 
 // The descent call as over any lent workspace of so many words: too few of them are refused.
 fn descend_apart<'a>(
-    orders: Orders,
-    labels: Labels<'a>,
-    edges: Edges<'a>,
-    substitutes: &[u8],
+    problem: Problem<'a>,
     connected: bool,
     floor: u8,
     checkpoint: Checkpoint,
@@ -56,15 +48,12 @@ fn descend_apart<'a>(
     words: usize,
 ) -> Descended
     ensures { (workspace : List ℕ) → length workspace ≡ words
-        → DescendedBy result (descend_call connected (lent orders labels.entry edges.entry substitutes.now) floor checkpoint budget workspace) }
+        → DescendedBy result (descend_call connected (lent problem.entry) floor checkpoint budget workspace) }
 {
     let mut own = [0u64; WORDS];
     let used = replies::words_used(words);
     descend::descend(
-        orders,
-        labels,
-        edges,
-        substitutes,
+        problem,
         connected,
         floor,
         checkpoint,
@@ -75,10 +64,7 @@ fn descend_apart<'a>(
 
 // The descent call, and its checkpoint saved; only then does the lent workspace become what the call leaves.
 fn descend_and_save<'a>(
-    orders: Orders,
-    labels: Labels<'a>,
-    edges: Edges<'a>,
-    substitutes: &[u8],
+    problem: Problem<'a>,
     connected: bool,
     floor: u8,
     checkpoint: Checkpoint,
@@ -87,55 +73,31 @@ fn descend_and_save<'a>(
     next: &mut [u8],
 ) -> DescentNumbers
     ensures { descent_reply result.reply result.ceiling result.visits workspace.new next.new
-        ≡ descend_and_save connected (lent orders labels.entry edges.entry substitutes.now) floor checkpoint budget
-        workspace.old next.old }
+        ≡ descend_and_save connected (lent problem.entry) floor checkpoint budget workspace.old next.old }
 {
     let lent = workspace.len();
-    let descended = descend_apart(
-        orders,
-        labels,
-        edges,
-        substitutes,
-        connected,
-        floor,
-        checkpoint,
-        budget,
-        lent,
-    );
-    let answer = descended.answer;
+    let descended = descend_apart(problem, connected, floor, checkpoint, budget, lent);
     let reached = descended.checkpoint;
-    match answer {
-        SearchAnswer::Ceiling(ceiling) => {
-            let saved = checkpoint_saver::save_checkpoint(
-                orders,
-                labels,
-                edges,
-                substitutes,
-                connected,
-                reached,
-                next,
-            );
-            match saved {
-                SaveAnswer::Written(count) => {
+    match descended.answer {
+        Ok(ceiling) => {
+            match checkpoint_saver::save_checkpoint(problem, connected, reached, next) {
+                Ok(count) => {
                     replies::clear_words(workspace);
                     DescentNumbers {
-                        reply: Reply {
-                            number: 0,
-                            value: count as u64,
-                        },
+                        reply: Reply::accepted(count as u64),
                         ceiling: ceiling as u64,
                         visits: descended.visits,
                     }
                 }
-                _ => DescentNumbers {
-                    reply: replies::of_save(saved),
+                Err(error) => DescentNumbers {
+                    reply: Reply::refused(error),
                     ceiling: 0,
                     visits: 0,
                 },
             }
         }
-        _ => DescentNumbers {
-            reply: replies::of_search(answer),
+        Err(error) => DescentNumbers {
+            reply: Reply::refused(error),
             ceiling: 0,
             visits: 0,
         },
@@ -144,10 +106,7 @@ fn descend_and_save<'a>(
 
 // The checkpoint loaded, the descent call on it, and its checkpoint saved to the front of `next`; 270 bytes are always room enough.
 pub fn descend<'a>(
-    orders: Orders,
-    labels: Labels<'a>,
-    edges: Edges<'a>,
-    substitutes: &[u8],
+    problem: Problem<'a>,
     connected: bool,
     floor: u8,
     bytes: &[u8],
@@ -156,34 +115,14 @@ pub fn descend<'a>(
     next: &mut [u8],
 ) -> DescentNumbers
     ensures { descent_reply result.reply result.ceiling result.visits workspace.new next.new
-        ≡ descend_bytes connected (lent orders labels.entry edges.entry substitutes.now) floor bytes.now budget
-        workspace.old next.old }
+        ≡ descend_bytes connected (lent problem.entry) floor bytes.now budget workspace.old next.old }
 {
-    let loaded = checkpoint_loader::load_checkpoint(
-        orders,
-        labels,
-        edges,
-        substitutes,
-        connected,
-        bytes,
-    );
-    let answer = loaded.answer;
-    let checkpoint = loaded.checkpoint;
-    match answer {
-        LoadAnswer::InShape => descend_and_save(
-            orders,
-            labels,
-            edges,
-            substitutes,
-            connected,
-            floor,
-            checkpoint,
-            budget,
-            workspace,
-            next,
+    match checkpoint_loader::load_checkpoint(problem, connected, bytes) {
+        Ok(checkpoint) => descend_and_save(
+            problem, connected, floor, checkpoint, budget, workspace, next,
         ),
-        _ => DescentNumbers {
-            reply: replies::of_load(answer),
+        Err(error) => DescentNumbers {
+            reply: Reply::refused(error),
             ceiling: 0,
             visits: 0,
         },

@@ -4,12 +4,14 @@ ghost use Rattle.std.specs.Prelude.{◌≡◌, ◌+◌, ◌*◌, ◌≤◌, ◌<
 ghost use Rattle.little_endian.specs.LittleEndian.{from_little};
 ghost use Rattle.graph.specs.EdgeRows.{eight_by};
 
+use super::EDGE_BYTES;
+
 // How many bytes a word has.
 pub const WORD: usize = 8;
 
 // The bytes of a row are 1 apart, those of a column 64.
-pub fn eight(edges: &[u8], from: usize, step: usize) -> u64
-    requires { (length edges.now ≡ 4096) × (step ≤ 64) × (from + step * 7 < 4096) }
+pub fn eight(edges: &[u8; EDGE_BYTES], from: usize, step: usize) -> u64
+    requires { (step ≤ 64) × (from + step * 7 < 4096) }
     ensures { result ≡ from_little (eight_by step edges.now from) }
 {
     little_endian::join([

@@ -67,13 +67,19 @@ impl<'a> Graph<'a> {
     pub fn check(self) -> Result<(), Flaw>
         ensures { soundness_answer result ≡ soundness (lent_graph self.entry) }
     {
-        if !self.tables_fit() {
+        let (Ok(labels), Ok(edges)) = (
+            <&[Label; MAX_ORDER]>::try_from(self.labels),
+            <&[u8; EDGE_BYTES]>::try_from(self.edges),
+        ) else {
+            return Err(Flaw::Tables);
+        };
+        if MAX_ORDER < self.order {
             return Err(Flaw::Tables);
         }
-        if !table_tests::labels_sound(self.order, self.labels) {
+        if !table_tests::labels_sound(self.order, labels) {
             return Err(Flaw::Labels);
         }
-        if !table_tests::edges_sound(self.order, self.edges) {
+        if !table_tests::edges_sound(self.order, edges) {
             return Err(Flaw::Edges);
         }
         Ok(())

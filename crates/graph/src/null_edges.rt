@@ -5,18 +5,18 @@ ghost use Rattle.graph.specs.Graph.{place};
 ghost use Rattle.graph.specs.EdgeRows.{Between, Null};
 
 use super::joined::WORD;
-use super::{MAX_ORDER, joined};
+use super::{EDGE_BYTES, MAX_ORDER, joined};
 
 // Eight bytes are 0 exactly where the number that they say is (`from_little_zero`).
-fn eight_null(edges: &[u8], from: usize) -> bool
-    requires { (length edges.now ≡ 4096) × (from + 8 ≤ 4096) }
+fn eight_null(edges: &[u8; EDGE_BYTES], from: usize) -> bool
+    requires { from + 8 ≤ 4096 }
     ensures { (result ≡ true) ↔ Between (Null edges.now) from (from + 8) }
 {
     joined::eight(edges, from, 1) == 0
 }
 
-pub fn words_null(edges: &[u8], from: usize, to: usize) -> bool
-    requires { (length edges.now ≡ 4096) × (to ≤ 4096) × (from % 8 ≡ 0) × (to % 8 ≡ 0) }
+pub fn words_null(edges: &[u8; EDGE_BYTES], from: usize, to: usize) -> bool
+    requires { (to ≤ 4096) × (from % 8 ≡ 0) × (to % 8 ≡ 0) }
     ensures { (result ≡ true) ↔ Between (Null edges.now) from to }
 {
     for word in from / WORD..to / WORD {
@@ -27,8 +27,8 @@ pub fn words_null(edges: &[u8], from: usize, to: usize) -> bool
     true
 }
 
-fn bytes_null(edges: &[u8], from: usize, to: usize) -> bool
-    requires { (length edges.now ≡ 4096) × (to ≤ 4096) }
+fn bytes_null(edges: &[u8; EDGE_BYTES], from: usize, to: usize) -> bool
+    requires { to ≤ 4096 }
     ensures { (result ≡ true) ↔ Between (Null edges.now) from to }
 {
     for place in from..to {
@@ -40,8 +40,8 @@ fn bytes_null(edges: &[u8], from: usize, to: usize) -> bool
 }
 
 // Row a from the order on: singly before the next multiple of eight, from there by the word.
-pub fn columns_null(order: usize, edges: &[u8], a: usize) -> bool
-    requires { (length edges.now ≡ 4096) × (order ≤ 64) × (a < 64) }
+pub fn columns_null(order: usize, edges: &[u8; EDGE_BYTES], a: usize) -> bool
+    requires { (order ≤ 64) × (a < 64) }
     ensures { (result ≡ true) ↔ Between (Null edges.now) (place a order) (place a 64) }
 {
     let row = MAX_ORDER * a;

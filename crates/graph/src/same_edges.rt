@@ -4,11 +4,11 @@ ghost use Rattle.std.specs.Prelude.{◌≡◌, ◌↔◌, true, ◌+◌, ◌%◌
 ghost use Rattle.graph.specs.EdgeRows.{Between, Same};
 
 use super::joined::WORD;
-use super::{MAX_ORDER, joined};
+use super::{EDGE_BYTES, MAX_ORDER, joined};
 
 // Eight bytes are those of eight others exactly where their numbers are the same (`from_little_injective`).
-fn eight_same(edges: &[u8], a: usize, b: usize) -> bool
-    requires { (length edges.now ≡ 4096) × (a < 64) × (b + 8 ≤ 64) }
+fn eight_same(edges: &[u8; EDGE_BYTES], a: usize, b: usize) -> bool
+    requires { (a < 64) × (b + 8 ≤ 64) }
     ensures { (result ≡ true) ↔ Between (Same edges.now a) b (b + 8) }
 {
     let row = joined::eight(edges, MAX_ORDER * a + b, 1);
@@ -16,8 +16,8 @@ fn eight_same(edges: &[u8], a: usize, b: usize) -> bool
     row == column
 }
 
-fn words_same(edges: &[u8], a: usize, to: usize) -> bool
-    requires { (length edges.now ≡ 4096) × (a < 64) × (to ≤ 64) × (to % 8 ≡ 0) }
+fn words_same(edges: &[u8; EDGE_BYTES], a: usize, to: usize) -> bool
+    requires { (a < 64) × (to ≤ 64) × (to % 8 ≡ 0) }
     ensures { (result ≡ true) ↔ Between (Same edges.now a) 0 to }
 {
     for word in 0..to / WORD {
@@ -28,8 +28,8 @@ fn words_same(edges: &[u8], a: usize, to: usize) -> bool
     true
 }
 
-fn bytes_same(edges: &[u8], a: usize, from: usize) -> bool
-    requires { (length edges.now ≡ 4096) × (a < 64) }
+fn bytes_same(edges: &[u8; EDGE_BYTES], a: usize, from: usize) -> bool
+    requires { a < 64 }
     ensures { (result ≡ true) ↔ Between (Same edges.now a) from a }
 {
     for b in from..a {
@@ -41,8 +41,8 @@ fn bytes_same(edges: &[u8], a: usize, from: usize) -> bool
 }
 
 // By the word up to the last multiple of eight, from there singly.
-pub fn same_before(edges: &[u8], a: usize) -> bool
-    requires { (length edges.now ≡ 4096) × (a < 64) }
+pub fn same_before(edges: &[u8; EDGE_BYTES], a: usize) -> bool
+    requires { a < 64 }
     ensures { (result ≡ true) ↔ Between (Same edges.now a) 0 a }
 {
     let aligned = a / WORD * WORD;

@@ -7,8 +7,8 @@ ghost use Rattle.graph.specs.Soundness.{label_sound, labels_sound, edges_sound};
 use super::{EDGE_BYTES, Label, MAX_ORDER, null_edges, same_edges};
 
 // The label of v is not 0 exactly where v is a vertex of the graph.
-pub fn label_sound(order: usize, labels: &[Label], v: usize) -> bool
-    requires { (length labels.now ≡ 64) × (v < 64) }
+pub fn label_sound(order: usize, labels: &[Label; MAX_ORDER], v: usize) -> bool
+    requires { v < 64 }
     ensures { result ≡ label_sound order labels.now v }
 {
     if v < order {
@@ -17,8 +17,7 @@ pub fn label_sound(order: usize, labels: &[Label], v: usize) -> bool
     labels[v] == 0
 }
 
-pub fn labels_sound(order: usize, labels: &[Label]) -> bool
-    requires { length labels.now ≡ 64 }
+pub fn labels_sound(order: usize, labels: &[Label; MAX_ORDER]) -> bool
     ensures { result ≡ labels_sound order labels.now }
 {
     for v in 0..MAX_ORDER {
@@ -30,8 +29,8 @@ pub fn labels_sound(order: usize, labels: &[Label]) -> bool
 }
 
 // The row of a vertex a. Its other half is looked at with the later vertices.
-fn row_sound(order: usize, edges: &[u8], a: usize) -> bool
-    requires { (length edges.now ≡ 4096) × (order ≤ 64) × (a < order) }
+fn row_sound(order: usize, edges: &[u8; EDGE_BYTES], a: usize) -> bool
+    requires { (order ≤ 64) × (a < order) }
     ensures { (result ≡ true) ↔ VertexRow order edges.now a }
 {
     if !same_edges::same_before(edges, a) {
@@ -40,8 +39,8 @@ fn row_sound(order: usize, edges: &[u8], a: usize) -> bool
     null_edges::columns_null(order, edges, a)
 }
 
-pub fn edges_sound(order: usize, edges: &[u8]) -> bool
-    requires { (length edges.now ≡ 4096) × (order ≤ 64) }
+pub fn edges_sound(order: usize, edges: &[u8; EDGE_BYTES]) -> bool
+    requires { (order ≤ 64) }
     ensures { result ≡ edges_sound order edges.now }
 {
     for a in 0..order {

@@ -29,7 +29,7 @@ opening_answer r = tested opening_refusal r
 
 abbrev pub read_refusal : ReadError → Answer
 read_refusal read.Tables = refused 10
-read_refusal (read.At f at) = refused_at (fault_number f) at
+read_refusal (read.Faulty f at) = refused_at (fault_number f) at
 
 abbrev pub read_answer : Result ℕ ReadError → Answer
 read_answer r = counted read_refusal r

@@ -8,7 +8,7 @@ ghost use Rattle.graph_reader.specs.Reading.{Applied};
 use super::{Edition, Fault};
 use graph::{Label, MAX_ORDER};
 
-// A command, or why there is none: the last two are commands too, as in `decode` and `judge` of specs/, and one arm of the loop refuses every fault.
+// A command. Bytes that make none have the last two cases, as in `decode` and `judge` of specs/: so one arm of the loop refuses every fault.
 #[derive(Clone, Copy, Debug, PartialEq, Eq)]
 pub enum Command {
     Vertex(Label),

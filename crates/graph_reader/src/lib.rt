@@ -40,7 +40,7 @@ pub enum Fault {
 #[derive(Clone, Copy, Debug, PartialEq, Eq)]
 pub enum ReadError {
     Tables,
-    At(Fault, usize),
+    Faulty(Fault, usize),
 }
 
 impl Refusal for ReadError {
@@ -49,7 +49,7 @@ impl Refusal for ReadError {
     fn number(self) -> u8 {
         match self {
             ReadError::Tables => 10,
-            ReadError::At(fault, _) => match fault {
+            ReadError::Faulty(fault, _) => match fault {
                 Fault::Truncated => 1,
                 Fault::UnknownCommand => 2,
                 Fault::ZeroLabel => 3,
@@ -67,12 +67,13 @@ impl Refusal for ReadError {
     fn place(self) -> usize {
         match self {
             ReadError::Tables => 0,
-            ReadError::At(_, at) => at,
+            ReadError::Faulty(_, at) => at,
         }
     }
 }
 
-// Reads graph bytes of the edition `from` into the two tables, for a graph that is to fit the edition `to`.
+// Reads graph bytes of the edition `from` into the two tables, for a graph that is to fit the edition `to`: the graph's order.
+// The tables stay slices inside too: refusal 10 tells of other lengths, and the library turns no lent slice into an array.
 #[tactic(auto, unfolding(crate::specs::Reading::reading_edition))]
 pub fn read_edition(
     from: Edition,
@@ -91,7 +92,7 @@ pub fn read_edition(
     reader::read_file(from, to, bytes, labels, edges)
 }
 
-// Reads graph bytes into the two tables.
+// Reads graph bytes into the two tables: the graph's order.
 #[tactic(auto, unfolding(crate::specs::Reading::reading))]
 pub fn read_graph(bytes: &[u8], labels: &mut [Label], edges: &mut [u8]) -> Result<usize, ReadError>
     ensures { reading_of result labels.new edges.new ≡ reading labels.old edges.old bytes.now }

@@ -22,7 +22,7 @@ pub fn refuse(
 {
     labels.fill(0);
     edges.fill(0);
-    Err(ReadError::At(fault, at))
+    Err(ReadError::Faulty(fault, at))
 }
 
 // The end, with the bytes from the place `at` on after it.
@@ -88,6 +88,6 @@ pub fn read_file(
 {
     match from.judge_opening(bytes) {
         Ok(()) => read_commands(from, to, bytes, labels, edges),
-        Err(fault) => Err(ReadError::At(fault, 0)),
+        Err(fault) => Err(ReadError::Faulty(fault, 0)),
     }
 }

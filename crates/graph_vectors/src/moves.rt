@@ -1,12 +1,13 @@
 // Files moved from one edition to the other (02, U6).
 
-use super::lines;
-use super::lines::{say, say_number};
+use super::lines::{Row, other_than};
+use super::tables::Tables;
+use answers::Refusal;
 use graph_reader::Edition;
-use graph_writer::MoveAnswer;
+use graph_writer::MoveError;
 use std::io;
 
-fn move_to(to: Edition, bytes: &[u8], out: &mut [u8]) -> MoveAnswer {
+fn move_to(to: Edition, bytes: &[u8], out: &mut [u8]) -> Result<usize, MoveError> {
     match to {
         Edition::One => graph_writer::to_edition_1(bytes, out),
         Edition::Two => graph_writer::to_edition_2(bytes, out),
@@ -16,264 +17,243 @@ fn move_to(to: Edition, bytes: &[u8], out: &mut [u8]) -> MoveAnswer {
 // Moves into a buffer that holds 170 everywhere. Prints the bytes that come, or the number and the place, and how many bytes of the buffer have changed.
 fn move_into(
     rt: &impl Print,
-    name: &[u8],
+    name: &str,
     to: Edition,
     bytes: &[u8],
     out: &mut [u8],
 ) -> io::Result<()> {
-    say(rt, name)?;
-    say(rt, b":")?;
-    let answer = move_to(to, bytes, out);
-    match answer {
-        MoveAnswer::Moved(count) => {
-            lines::say_bytes(rt, out, count)?;
+    match move_to(to, bytes, out) {
+        Ok(count) => {
+            let moved = Row(&out[..count.min(out.len())]);
+            print!(rt; "{name}:{moved}")?;
         }
-        MoveAnswer::Refused(_, at) => {
-            say(rt, b" ")?;
-            say_number(rt, graph_writer::move_number(answer) as usize)?;
-            say(rt, b" at ")?;
-            say_number(rt, at)?;
-        }
-        MoveAnswer::TooShort => {
-            say(rt, b" ")?;
-            say_number(rt, graph_writer::move_number(answer) as usize)?;
+        Err(error) => {
+            print!(rt; "{name}: {}", error.number())?;
+            if let MoveError::Unreadable(_, place) = error {
+                print!(rt; " at {place}")?;
+            }
         }
     }
-    say(rt, b", changed ")?;
-    say_number(rt, lines::other_than(170, out))?;
-    say(rt, b"\n")
+    println!(rt; ", changed {}", other_than(170, out))
 }
 
-fn up(rt: &impl Print, name: &[u8], bytes: &[u8]) -> io::Result<()> {
-    let mut out = [170u8; 64];
-    move_into(rt, name, Edition::Two, bytes, &mut out)
+fn up(rt: &impl Print, name: &str, bytes: &[u8]) -> io::Result<()> {
+    move_into(rt, name, Edition::Two, bytes, &mut [170; 64])
 }
 
-pub fn back(rt: &impl Print, name: &[u8], bytes: &[u8]) -> io::Result<()> {
-    let mut out = [170u8; 64];
-    move_into(rt, name, Edition::One, bytes, &mut out)
+pub fn back(rt: &impl Print, name: &str, bytes: &[u8]) -> io::Result<()> {
+    move_into(rt, name, Edition::One, bytes, &mut [170; 64])
 }
 
 // 01's byte examples, as they stand there, and its pair P.
 pub fn moved_up(rt: &impl Print) -> io::Result<()> {
-    up(rt, b"bytes 0 moved up", b"\x00")?;
-    up(rt, b"no bytes moved up", b"")?;
+    up(rt, "bytes 0 moved up", b"\x00")?;
+    up(rt, "no bytes moved up", b"")?;
     up(
         rt,
-        b"edge to a vertex not given moved up",
+        "edge to a vertex not given moved up",
         b"\x01\x07\x02\x00\x01\x01\x00",
     )?;
     up(
         rt,
-        b"edge of a vertex with itself moved up",
+        "edge of a vertex with itself moved up",
         b"\x01\x07\x02\x00\x00\x01\x00",
     )?;
     up(
         rt,
-        b"old graph of P moved up",
+        "old graph of P moved up",
         b"\x01\x07\x01\x09\x01\x07\x02\x00\x01\x01\x02\x01\x02\x01\x00",
     )?;
     up(
         rt,
-        b"new graph of P moved up",
+        "new graph of P moved up",
         b"\x01\x09\x01\x07\x02\x00\x01\x01\x00",
     )?;
     up(
         rt,
-        b"edge given higher number first moved up",
+        "edge given higher number first moved up",
         b"\x01\x09\x01\x07\x02\x01\x00\x01\x00",
     )?;
     up(
         rt,
-        b"an edge before the second vertex moved up",
+        "an edge before the second vertex moved up",
         b"\x01\x07\x02\x00\x00\x01\x01\xff\x00",
     )
 }
 
 // Edition 1 knows neither 3 nor 4.
 pub fn kept_out(rt: &impl Print) -> io::Result<()> {
-    up(rt, b"a file of edition 2 moved up", b"\x04\x02\x00")?;
+    up(rt, "a file of edition 2 moved up", b"\x04\x02\x00")?;
     up(
         rt,
-        b"a vertex of edition 2 moved up",
+        "a vertex of edition 2 moved up",
         b"\x01\x07\x03\x07\x00\x00",
     )?;
-    up(rt, b"label 0 moved up", b"\x01\x00\x00")?;
-    up(rt, b"a vertex without label moved up", b"\x01\x07\x01")?;
+    up(rt, "label 0 moved up", b"\x01\x00\x00")?;
+    up(rt, "a vertex without label moved up", b"\x01\x07\x01")?;
     up(
         rt,
-        b"null edge of a vertex with itself moved up",
+        "null edge of a vertex with itself moved up",
         b"\x01\x07\x02\x00\x00\x00\x00",
     )?;
     up(
         rt,
-        b"edge of a vertex with itself repeated moved up",
+        "edge of a vertex with itself repeated moved up",
         b"\x01\x07\x02\x00\x00\x01\x02\x00\x00\x01\x00",
     )?;
-    up(rt, b"a byte after the end moved up", b"\x00\x00")
+    up(rt, "a byte after the end moved up", b"\x00\x00")
 }
 
 pub fn moved_back(rt: &impl Print) -> io::Result<()> {
-    back(rt, b"empty graph moved back", b"\x04\x02\x00")?;
+    back(rt, "empty graph moved back", b"\x04\x02\x00")?;
     back(
         rt,
-        b"edge given higher number first moved back",
+        "edge given higher number first moved back",
         b"\x04\x02\x03\x07\x00\x03\x07\x00\x02\x01\x00\x01\x00",
     )?;
-    back(rt, b"label 255 moved back", b"\x04\x02\x03\xff\x00\x00")?;
-    back(rt, b"label 0 moved back", b"\x04\x02\x03\x00\x00\x00")?;
-    back(rt, b"half a label moved back", b"\x04\x02\x03\x00")?;
-    back(rt, b"no bytes moved back", b"")?;
-    back(rt, b"opening cut moved back", b"\x04")?;
-    back(rt, b"a file of edition 1 moved back", b"\x01\x07\x00")?;
+    back(rt, "label 255 moved back", b"\x04\x02\x03\xff\x00\x00")?;
+    back(rt, "label 0 moved back", b"\x04\x02\x03\x00\x00\x00")?;
+    back(rt, "half a label moved back", b"\x04\x02\x03\x00")?;
+    back(rt, "no bytes moved back", b"")?;
+    back(rt, "opening cut moved back", b"\x04")?;
+    back(rt, "a file of edition 1 moved back", b"\x01\x07\x00")?;
     back(
         rt,
-        b"a byte after the end moved back",
+        "a byte after the end moved back",
         b"\x04\x02\x03\x07\x00\x00\x00",
     )
 }
 
 // A label above 255 is told at its vertex, before what comes after it and after what comes before it.
 pub fn wide_labels(rt: &impl Print) -> io::Result<()> {
-    back(rt, b"label 256 moved back", b"\x04\x02\x03\x00\x01\x00")?;
-    back(rt, b"label 263 moved back", b"\x04\x02\x03\x07\x01\x00")?;
-    back(rt, b"label 65535 moved back", b"\x04\x02\x03\xff\xff\x00")?;
+    back(rt, "label 256 moved back", b"\x04\x02\x03\x00\x01\x00")?;
+    back(rt, "label 263 moved back", b"\x04\x02\x03\x07\x01\x00")?;
+    back(rt, "label 65535 moved back", b"\x04\x02\x03\xff\xff\x00")?;
     back(
         rt,
-        b"label 256 before an unknown command",
+        "label 256 before an unknown command",
         b"\x04\x02\x03\x00\x01\x09",
     )?;
-    back(rt, b"label 256 before no end", b"\x04\x02\x03\x00\x01")?;
+    back(rt, "label 256 before no end", b"\x04\x02\x03\x00\x01")?;
     back(
         rt,
-        b"label 256 before a byte after the end",
+        "label 256 before a byte after the end",
         b"\x04\x02\x03\x00\x01\x00\x00",
     )?;
     back(
         rt,
-        b"label 256 of the second vertex",
+        "label 256 of the second vertex",
         b"\x04\x02\x03\x07\x00\x03\x00\x01\x00",
     )?;
     back(
         rt,
-        b"label 256 after an edge to a vertex not given",
+        "label 256 after an edge to a vertex not given",
         b"\x04\x02\x03\x07\x00\x02\x00\x01\x01\x03\x00\x01\x00",
     )
 }
 
 // Moves a file of edition 1 up, and what comes of it back.
-fn there_and_back_of(rt: &impl Print, name: &[u8], bytes: &[u8]) -> io::Result<()> {
+fn there_and_back_of(rt: &impl Print, name: &str, bytes: &[u8]) -> io::Result<()> {
     let mut out = [170u8; 64];
     match graph_writer::to_edition_2(bytes, &mut out) {
-        MoveAnswer::Moved(count) => {
-            if count <= 64 {
-                back(rt, name, &out[..count])?;
-            }
-        }
-        _ => {
-            say(rt, b"not moved\n")?;
-        }
+        Ok(count) => back(rt, name, &out[..count.min(64)]),
+        Err(_) => println!(rt; "not moved"),
     }
-    Ok(())
 }
 
 pub fn there_and_back(rt: &impl Print) -> io::Result<()> {
-    there_and_back_of(rt, b"bytes 0 there and back", b"\x00")?;
+    there_and_back_of(rt, "bytes 0 there and back", b"\x00")?;
     there_and_back_of(
         rt,
-        b"old graph of P there and back",
+        "old graph of P there and back",
         b"\x01\x07\x01\x09\x01\x07\x02\x00\x01\x01\x02\x01\x02\x01\x00",
     )?;
     there_and_back_of(
         rt,
-        b"an edge before the second vertex there and back",
+        "an edge before the second vertex there and back",
         b"\x01\x07\x02\x00\x00\x01\x01\xff\x00",
     )
 }
 
 // A buffer that is too short is told last.
 pub fn room(rt: &impl Print) -> io::Result<()> {
-    let mut six = [170u8; 6];
-    let mut five = [170u8; 5];
     move_into(
         rt,
-        b"one byte short up",
+        "one byte short up",
         Edition::Two,
         b"\x01\x07\x00",
-        &mut five,
+        &mut [170; 5],
     )?;
-    move_into(rt, b"just room up", Edition::Two, b"\x01\x07\x00", &mut six)?;
-    let mut three = [170u8; 3];
-    let mut two = [170u8; 2];
     move_into(
         rt,
-        b"no room and a label above 255 back",
+        "just room up",
+        Edition::Two,
+        b"\x01\x07\x00",
+        &mut [170; 6],
+    )?;
+    move_into(
+        rt,
+        "no room and a label above 255 back",
         Edition::One,
         b"\x04\x02\x03\x00\x01\x00",
-        &mut two,
+        &mut [170; 2],
     )?;
     move_into(
         rt,
-        b"no room and a byte after the end back",
+        "no room and a byte after the end back",
         Edition::One,
         b"\x04\x02\x03\x07\x00\x00\x00",
-        &mut two,
+        &mut [170; 2],
     )?;
     move_into(
         rt,
-        b"one byte short back",
+        "one byte short back",
         Edition::One,
         b"\x04\x02\x03\x07\x00\x00",
-        &mut two,
+        &mut [170; 2],
     )?;
     move_into(
         rt,
-        b"just room back",
+        "just room back",
         Edition::One,
         b"\x04\x02\x03\x07\x00\x00",
-        &mut three,
+        &mut [170; 3],
     )
 }
 
 // How many places two files of the greatest length differ at.
 fn differing(a: &[u8; 8515], b: &[u8; 8515]) -> usize {
-    let mut count = 0;
-    for i in 0..8515 {
-        if a[i] != b[i] {
-            count += 1;
-        }
-    }
-    count
+    a.iter().zip(b).filter(|(x, y)| *x != *y).count()
 }
 
-fn say_count(rt: &impl Print, name: &[u8], answer: MoveAnswer) -> io::Result<()> {
-    say(rt, name)?;
-    if let MoveAnswer::Moved(count) = answer {
-        say(rt, b": bytes ")?;
-        say_number(rt, count)?;
+fn print_count(rt: &impl Print, name: &str, moved: Result<usize, MoveError>) -> io::Result<()> {
+    match moved {
+        Ok(count) => println!(rt; "{name}: bytes {count}"),
+        Err(_) => println!(rt; "{name}"),
     }
-    say(rt, b"\n")
 }
 
 // The longest file whose labels fit a byte: 64 vertices of label 255 and every edge of two or of one, back to edition 1 and up again.
 pub fn greatest(rt: &impl Print) -> io::Result<()> {
-    let labels = [255u16; 64];
-    let edges = [5u8; 4096];
+    let tables = Tables {
+        labels: [255; 64],
+        edges: [5; 4096],
+    };
     let mut file = [0u8; 8515];
     let mut old = [0u8; 8449];
     let mut again = [0u8; 8515];
-    graph_writer::write_graph(64, &labels, &edges, &mut file);
-    say_count(
+    if graph_writer::write_graph(tables.graph(64), &mut file).is_err() {
+        println!(rt; "not written")?;
+    }
+    print_count(
         rt,
-        b"greatest file moved back",
+        "greatest file moved back",
         graph_writer::to_edition_1(&file, &mut old),
     )?;
-    say_count(
+    print_count(
         rt,
-        b"and up again",
+        "and up again",
         graph_writer::to_edition_2(&old, &mut again),
     )?;
-    say(rt, b"differing bytes ")?;
-    say_number(rt, differing(&file, &again))?;
-    say(rt, b"\n")
+    println!(rt; "differing bytes {}", differing(&file, &again))
 }

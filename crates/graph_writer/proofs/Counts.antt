@@ -1,11 +1,8 @@
--- What is counted and added up over a range, and stored into a part of a buffer, in the words of `specs/`.
-use Rattle.std.proofs.Common.{◌≡◌, ◌∙◌, refl, ap, ℕ, zero, suc, ◌+◌, ◌≤◌, Bool, true, false, cond, List, [], ◌∷◌, ◌++◌, length, arith, length-append, zero-add, append_assoc, sym, take, drop}
+-- What is counted and added up over a range, as sums over all numbers below a bound.
+use Rattle.std.proofs.Common.{◌≡◌, ◌∙◌, refl, ap, ℕ, zero, suc, ◌+◌, Bool, true, false, cond, List, [], ◌∷◌, ◌++◌, length, arith, length-append, zero-add}
 use Rattle.std.specs.List.{range_with_len, filter, sum_by}
 use Rattle.std.proofs.lemmas.List.Sums.{sum_by-append}
 use Rattle.std.proofs.lemmas.List.Elements.{filter-append}
-use Rattle.std.proofs.lemmas.List.Edits.{sets, sets-eq}
-use lib.Seq.{drop-drop}
-use borrow.Rule.Slice.PartMut.{put_mid}
 use Rattle.bounded.specs.Below.{sum_below}
 
 -- one number more
@@ -30,8 +27,3 @@ pub sum_range : (f : ℕ → ℕ) (n : ℕ) → sum_by f (range_with_len 0 n) �
 unfolding sum_below
 sum_range f zero = refl
 sum_range f (suc n) = ap (sum_by f) (range_more 0 n n (zero-add n)) ∙ rw sum_by-append (omega (arith, sum_range f n))
-
--- Bytes copied into the part of a buffer from the place a on are stored there.
-pub part_sets : (a k : ℕ) (buffer part bytes : List ℕ) → part ≡ bytes → k ≡ length bytes → a + length bytes ≤ length buffer
-    → put_mid a k buffer part ≡ sets buffer a bytes
-part_sets a k buffer part bytes e l fits = rw (e, l, sets-eq bytes buffer a fits, drop-drop) (sym (append_assoc (take a buffer) bytes (drop (a + length bytes) buffer)))

@@ -4,6 +4,7 @@ pub mod LongestFile
 pub mod MovedFile
 pub mod Moves
 pub mod PartialTables
+pub mod Parts
 pub mod RoundTrip
 pub mod SameReading
 pub mod Stretches

@@ -81,8 +81,8 @@ pub fn write_vertices(edition: Edition, graph: Graph<'_>, out: &mut [u8], start:
     ensures { out.new ≡ sets out.old start (run_below graph.entry.order (vertex_bytes edition (lent_graph graph.entry))) }
 {
     let mut at = start;
-    for v in 0..graph.order {
-        at = put_vertex(edition, graph.labels[v], out, at);
+    for label in &graph.labels[..graph.order] {
+        at = put_vertex(edition, *label, out, at);
     }
 }
 

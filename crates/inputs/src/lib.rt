@@ -3,19 +3,15 @@
 #![tactic(auto)]
 
 ghost use Rattle.std.specs.Prelude.{◌≡◌};
-ghost use Rattle.answers.specs.Answer.{refused};
 ghost use Rattle.graph_reader.specs.Reading.{read_graph};
 ghost use Rattle.substitutes.specs.Soundness.{substitutes_answer};
-ghost use Rattle.problem.specs.Answers.{problem_flaw_number};
 ghost use Rattle.replies.specs.Reply.{reply_of};
 ghost use Rattle.inputs.specs.Judging.{judging};
 
 use graph::{EDGE_BYTES, Label, MAX_ORDER};
-use problem::ProblemFlaw;
 use replies::Reply;
-use substitutes::SubstitutesAnswer;
 
-// What a reply is about: nothing is at fault, or the first input that is.
+// What a reply is about: nothing is at fault, or the first input that is. These are the numbers that C gets.
 const NONE: u64 = 0;
 
 const OLD_GRAPH: u64 = 1;
@@ -25,7 +21,7 @@ const NEW_GRAPH: u64 = 2;
 const SUBSTITUTES: u64 = 3;
 
 // A reply, and what it is about.
-#[derive(Clone, Copy)]
+#[derive(Clone, Copy, Debug, PartialEq, Eq)]
 pub struct Judgement {
     pub reply: Reply,
     pub about: u64,
@@ -37,16 +33,7 @@ pub fn judge_graph(graph: &[u8]) -> Reply
 {
     let mut labels = [0 as Label; MAX_ORDER];
     let mut edges = [0u8; EDGE_BYTES];
-    replies::of_read(graph_reader::read_graph(graph, &mut labels, &mut edges))
-}
-
-fn flawed(flaw: ProblemFlaw) -> Reply
-    ensures { result ≡ reply_of (refused (problem_flaw_number flaw)) }
-{
-    Reply {
-        number: problem::problem_flaw_number(flaw) as u32,
-        value: 0,
-    }
+    Reply::of(graph_reader::read_graph(graph, &mut labels, &mut edges))
 }
 
 // Whether the list is sound.
@@ -54,12 +41,8 @@ fn judge_list(list: &[u8]) -> Reply
     ensures { result ≡ reply_of (substitutes_answer list.now) }
 {
     match substitutes::check_substitutes(list) {
-        SubstitutesAnswer::Sound => Reply {
-            number: 0,
-            value: 0,
-        },
-        SubstitutesAnswer::Length => flawed(ProblemFlaw::SubstitutesLength),
-        SubstitutesAnswer::Labels => flawed(ProblemFlaw::SubstitutesLabels),
+        Ok(()) => Reply::accepted(0),
+        Err(flaw) => Reply::refused(flaw),
     }
 }
 

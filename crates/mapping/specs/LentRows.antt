@@ -1,5 +1,5 @@
--- A row of the check by what the code reads for it: of the problem that is lent the new order and the edges, and the sets of vertices whose labels agree (01, the row "Partner list" of the
--- refusals). For a sound problem it is the row of `Check`.
+-- A row of the check by what the code reads for it: the new order and the edges of the lent problem, and the sets of vertices whose labels agree (01, the row
+-- "Partner list" of the refusals). For a sound problem it is the row of `Check`.
 use Rattle.std.specs.Prelude.{List, ℕ, get_or}
 use Rattle.std.proofs.Math.Option.{Option}
 use Rattle.bitset.specs.Members.{member}

@@ -14,7 +14,7 @@ use super::{Checked, MappingError, NewVertex, OldVertex, UNMAPPED};
 use graph::MAX_ORDER;
 use problem::Problem;
 
-// The contracts below name only what a function reads: of the labels, the sets of vertices that agree with each row.
+// Of the labels nothing is read here but the sets of vertices that agree with each row.
 
 // The edges of v and v2 in the old graph, and of w and w2 in the new one.
 pub fn compare_edges<'a>(
@@ -42,6 +42,9 @@ pub struct Rows<'a> {
     pub problem: Problem<'a>,
     pub agreeing: &'a [u64; MAX_ORDER],
     pub mapping: &'a [u8],
+    pub ghost edges_long: { EdgesLong problem },
+    pub ghost new_order_max: { problem.new.order ≤ 64 },
+    pub ghost few_rows: { length mapping.now ≤ 64 },
 }
 
 impl<'a> Rows<'a> {
@@ -54,7 +57,7 @@ impl<'a> Rows<'a> {
 
     // Row v against the earlier row u.
     fn clash(self, v: OldVertex, u: OldVertex) -> Result<(), MappingError>
-        requires long { EdgesLong self.problem × (length self.mapping.now ≤ 64) × (v.0 < length self.mapping.now) × (u.0 < v.0) }
+        requires rows { (v.0 < length self.mapping.now) × (u.0 < v.0) }
         requires below { (get_or self.mapping.now v.0 0 < 64) × EntriesBelow self.mapping.now v.0 }
         ensures { finding result ≡ clash_at (lent self.entry.problem) self.entry.mapping.now v.0 u.0 }
     {
@@ -80,7 +83,7 @@ impl<'a> Rows<'a> {
 
     // Row v against all earlier rows, rising.
     fn first_clash(self, v: OldVertex) -> Result<(), MappingError>
-        requires long { EdgesLong self.problem × (length self.mapping.now ≤ 64) × (v.0 < length self.mapping.now) }
+        requires row { v.0 < length self.mapping.now }
         requires below { (get_or self.mapping.now v.0 0 < 64) × EntriesBelow self.mapping.now v.0 }
         ensures { finding result ≡ first_below v.0 (clash_at (lent self.entry.problem) self.entry.mapping.now v.0) }
     {
@@ -92,8 +95,7 @@ impl<'a> Rows<'a> {
 
     // One row: its own entry and its vertex with itself, then the earlier rows. The rows before it are clear.
     fn row_fault(self, v: OldVertex) -> Result<(), MappingError>
-        requires long { EdgesLong self.problem × (self.problem.new.order ≤ 64) }
-        requires below { (length self.mapping.now ≤ 64) × (v.0 < length self.mapping.now) × EntriesBelow self.mapping.now v.0 }
+        requires { (v.0 < length self.mapping.now) × EntriesBelow self.mapping.now v.0 }
         ensures { finding result ≡ lent_row self.entry.problem self.entry.agreeing.now self.entry.mapping.now v.0 }
     {
         let image = self.mapping[v.0];
@@ -115,7 +117,6 @@ impl<'a> Rows<'a> {
 
     // All rows, rising.
     fn first_fault(self) -> Result<(), MappingError>
-        requires { EdgesLong self.problem × (self.problem.new.order ≤ 64) × (length self.mapping.now ≤ 64) }
         ensures { finding result ≡ first_below (length self.entry.mapping.now)
             (lent_row self.entry.problem self.entry.agreeing.now self.entry.mapping.now) }
     {

@@ -1,13 +1,11 @@
-// What a case lends: the tables of a graph read from its bytes, and then harmed in at most one way; a long list of substitutes; and a graph's bytes.
+// What a case lends: the tables of a graph read from its bytes, and then harmed in at most one way.
 
-ghost use Rattle.std.specs.Prelude.{◌≡◌, ◌≤◌, length};
-
-use graph::Label;
-use graph_reader::ReadAnswer;
+use graph::{Graph, Label};
+use problem::Problem;
 use std::io;
 
 // What is wrong with the tables. The graphs here that are harmed have fewer than 64 vertices, and at least one.
-#[derive(Clone, Copy)]
+#[derive(Clone, Copy, Debug, PartialEq, Eq)]
 pub enum Harm {
     Sound,
     // the order is 65
@@ -24,81 +22,78 @@ pub enum Harm {
     Edge,
 }
 
-// The graph's order. Bytes that hold no graph are told of in the output.
-fn read(
-    rt: &impl Print,
-    bytes: &[u8],
-    labels: &mut [Label],
-    edges: &mut [u8],
-) -> io::Result<usize> {
-    match graph_reader::read_graph(bytes, labels, edges) {
-        ReadAnswer::Order(order) => Ok(order),
-        ReadAnswer::Tables => {
-            println!(rt; "no tables")?;
-            Ok(0)
-        }
-        ReadAnswer::Refused(_, _) => {
-            println!(rt; "no graph")?;
-            Ok(0)
-        }
+// A graph's bytes, and what is wrong with its tables.
+#[derive(Clone, Copy)]
+pub struct Source<'a> {
+    pub bytes: &'a [u8],
+    pub harm: Harm,
+}
+
+pub fn sound(bytes: &[u8]) -> Source<'_> {
+    Source {
+        bytes,
+        harm: Harm::Sound,
     }
 }
 
-// Fills the tables, and answers with the order to lend.
-pub fn fill(
-    rt: &impl Print,
-    bytes: &[u8],
+#[derive(Drop)]
+pub struct Tables {
+    order: usize,
+    labels: [Label; 64],
+    edges: [u8; 4096],
     harm: Harm,
-    labels: &mut [Label],
-    edges: &mut [u8],
-) -> io::Result<usize>
-    requires { (length labels.old ≡ 64) × (length edges.old ≡ 4096) }
-{
-    let order = read(rt, bytes, labels, edges)?;
-    match harm {
-        Harm::Sound => Ok(order),
-        Harm::Order => Ok(65),
-        Harm::ShortLabels => Ok(order),
-        Harm::ShortEdges => Ok(order),
-        Harm::Label => {
-            labels[63] = 9;
-            Ok(order)
+}
+
+impl Tables {
+    // Bytes that hold no graph are told of in the output.
+    pub fn read(rt: &impl Print, source: Source<'_>) -> io::Result<Tables> {
+        let mut labels = [0; 64];
+        let mut edges = [0; 4096];
+        let mut order = 0;
+        match graph_reader::read_graph(source.bytes, &mut labels, &mut edges) {
+            Ok(read) => order = read,
+            Err(_) => println!(rt; "no graph")?,
         }
-        Harm::NoLabel => {
-            labels[0] = 0;
-            Ok(order)
+        match source.harm {
+            Harm::Order => order = 65,
+            Harm::Label => labels[63] = 9,
+            Harm::NoLabel => labels[0] = 0,
+            Harm::Edge => edges[4095] = 1,
+            Harm::Sound | Harm::ShortLabels | Harm::ShortEdges => {}
         }
-        Harm::Edge => {
-            edges[4095] = 1;
-            Ok(order)
+        Ok(Tables {
+            order,
+            labels,
+            edges,
+            harm: source.harm,
+        })
+    }
+
+    fn graph(&self) -> Graph<'_> {
+        let label_count = if self.harm == Harm::ShortLabels {
+            63
+        } else {
+            64
+        };
+        let edge_count = if self.harm == Harm::ShortEdges {
+            4095
+        } else {
+            4096
+        };
+        Graph {
+            order: self.order,
+            labels: &self.labels[..label_count],
+            edges: &self.edges[..edge_count],
         }
     }
 }
 
-// How many labels to lend.
-pub fn labels_lent(harm: Harm) -> usize
-    ensures { result ≤ 64 }
-{
-    if let Harm::ShortLabels = harm { 63 } else { 64 }
-}
-
-// How many edges to lend.
-pub fn edges_lent(harm: Harm) -> usize
-    ensures { result ≤ 4096 }
-{
-    if let Harm::ShortEdges = harm {
-        4095
-    } else {
-        4096
-    }
-}
-
-// 257 times the pair of 7 and 9, in bytes that are 0.
-pub fn fill_pairs(bytes: &mut [u8])
-    requires { length bytes.old ≡ 1028 }
-{
-    for k in 0..257 {
-        bytes[4 * k] = 7;
-        bytes[4 * k + 2] = 9;
+pub fn lend<'a>(old: &'a Tables, new: &'a Tables, substitutes: &'a [u8]) -> Problem<'a> {
+    let old = old.graph();
+    let new = new.graph();
+    Problem {
+        old,
+        new,
+        substitutes,
     }
 }

@@ -14,7 +14,7 @@ use Rattle.problem_reader.specs.Answers.{BothRead, problem_reading_of}
 -- a refusal is handed on
 refused_answer : (e : ReadError) (f : ℕ → ReadOutcome) → refusal (read_refusal e) ≡ on_order (read_refusal e) f
 refused_answer ReadError.Tables f = refl
-refused_answer (ReadError.At fault at) f = refl
+refused_answer (ReadError.Faulty fault at) f = refl
 
 -- the readings of the old and of the new bytes, as a whole
 abbrev whole : Reading → Reading → ProblemReading

@@ -1,8 +1,8 @@
--- What a table that tells the texts has in the row of each number, and that a text has room or is refused.
+-- What a table that tells the texts has in the row of each number.
 use mathlib.Core.Path.{◌≡◌, ap, sym, ◌∙◌}
 use mathlib.Core.List.{List, []}
-use Prim.Native.Nat.{ℕ}
-use lib.ListN.{get_or, get_or-map}
+use Prim.Native.Nat.{ℕ, ◌≤◌}
+use lib.ListN.{get_or, get_or-map, get_or-eq_default}
 use Rattle.std.specs.Prelude.{map, Option, unwrap_or}
 use Rattle.std.specs.Borrow.{Bor}
 use Rattle.reasons.specs.Reasons.{bytes_of, reasons, reason_text}
@@ -16,6 +16,11 @@ row_text rows tell k none empty =
     ∙ ap (get_or (map (λ (row : Bor (List ℕ)). row.now) rows) k) empty
     ∙ ap (λ (l : List (List ℕ)). get_or l k []) tell
     ∙ get_or-map bytes_of reasons k ""
+
+-- A number without a row has the empty text.
+pub no_text : (k : ℕ) → 29 ≤ k → reason_text k ≡ []
+unfolding bytes_of reason_text reasons
+no_text k h = ap bytes_of (get_or-eq_default reasons "" h)
 
 -- So has what is read at the number with the empty text in reserve.
 pub text_found : (rows : List (Bor (List ℕ))) → RowsTell rows → (k : ℕ) {row found : Option (Bor (List ℕ))} (none : Bor (List ℕ)) {text : Bor (List ℕ)}

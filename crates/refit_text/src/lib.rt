@@ -10,6 +10,8 @@ ghost use Rattle.std.specs.Prelude.{◌≡◌};
 ghost use Rattle.answers.specs.Output.{fill};
 ghost use Rattle.refit_text.specs.Program.{written, refit_text};
 
+use text::Writer;
+
 // Whatever the files hold, what is printed has no more bytes.
 pub const MAX_TEXT: usize = 8192;
 
@@ -18,9 +20,12 @@ pub fn refit(old_bytes: &[u8], new_bytes: &[u8], input: &[u8], out: &mut [u8; MA
     ensures { written result out.new
         ≡ fill (refit_text old_bytes.now new_bytes.now input.now) out.old }
 {
-    if input.len() != 9 {
-        return text::put(b"refused input\n", out, 0);
+    let mut writer = Writer::new(out);
+    if input.len() == 9 {
+        let budget = little_endian::load(&input[1..]);
+        program::put_graphs(old_bytes, new_bytes, input[0], budget, &mut writer);
+    } else {
+        writer.put(b"refused input\n");
     }
-    let budget = little_endian::load(&input[1..]);
-    program::put_graphs(old_bytes, new_bytes, input[0], budget, out)
+    writer.written()
 }

@@ -1,28 +1,27 @@
 -- What clique branching replies, arm by arm of the answer that the code matches on.
 use mathlib.Core.Path.{◌≡◌, refl, sym, ap, ◌∙◌}
-use mathlib.Core.Bool.{Bool, cond, true≢false}
-use mathlib.Core.List.{List, [], ◌∷◌}
+use mathlib.Core.Bool.{Bool, cond, true, true≢false}
+use mathlib.Core.List.{List, []}
 use mathlib.Core.Option.{Option, none, some}
 use Prim.Native.Nat.{ℕ, ◌-◌, ◌≤◌, ◌<◌}
 use native.Mathlib.Omega.{arith}
-use denote.Enum.Declared.{tag_of}
-use types.Run.{OneOf, miss}
+use Rattle.std.specs.Prelude as Option
+use Rattle.std.specs.Prelude.{Result, Some, None, Ok, Err}
 use lib.ListN.{length, take, replicate, length-take}
 use lib.Seq.{take-append_seam}
 use borrow.Author.Tests.{le-leb, lt-leb}
-use Rattle.answers.specs.Answer.{Answer, passed, accepted, refused, refused_at, when_passed}
+use Rattle.answers.specs.Answer.{Answer, passed, accepted, refused, refused_at, is_refused, when_passed}
 use Rattle.answers.specs.Output.{overwrite}
 use Rattle.answers.proofs.RefusalNumbers.{Plain}
 use Rattle.problem.specs.Problem.{Problem}
 use Rattle.mapping.specs.Common.{size}
-use Rattle.clique.specs.declared.Branched.{Branched}
-use Rattle.clique.specs.declared.CliqueAnswer.{CliqueAnswer}
-use Rattle.clique.specs.Answers.{clique_answer_of, called_of}
+use Rattle.clique.specs.declared.CliqueError.{CliqueError}
+use Rattle.clique.specs.declared.CliqueError.TheVariants.{Flawed, ManyVertices}
+use Rattle.clique.specs.Answers.{clique_refusal, called_of}
 use Rattle.clique.specs.Branching.{branch}
 use Rattle.clique.specs.Call.{Called, padded, called_with, clique_answer, clique_call}
 use Rattle.clique.proofs.BranchBest.{branch_length}
 use Rattle.clique.proofs.CliquePasses.{clique_plain, passes_clique}
-use Rattle.clique.specs.contracts.CliqueAnswer as clique_tags
 use Rattle.replies.specs.declared.Reply.{Reply}
 use Rattle.replies.specs.Reply.{reply, reply_of, too_short}
 use Rattle.replies.specs.CliqueReply.{CliqueReply, clique_reply, no_mapping, held_reply, branch_reply}
@@ -34,29 +33,32 @@ call_on a held = when_passed a (called_with held) (λ refusal. record { answer =
 abbrev reply_on : Answer → Option (List ℕ) → List ℕ → CliqueReply
 reply_on a held mapping = when_passed a (held_reply held mapping) (λ (refusal : Answer). no_mapping mapping (reply_of refusal))
 
-module _ (P : Problem) (minimum : ℕ) (r : Branched) (called : called_of r ≡ clique_call P minimum) where
-  module _ (arm : r.answer ≡ CliqueAnswer.Held) where
+module _ (P : Problem) (minimum : ℕ) (r : Result (Option.Option (List ℕ)) CliqueError) (called : called_of r ≡ clique_call P minimum) where
+  module _ (bytes : List ℕ) (arm : r ≡ Ok (Some bytes)) where
+    told : called_of (Ok (Some bytes)) ≡ clique_call P minimum
+    told = ap called_of (sym arm) ∙ called
+
     -- What is held is the first entries of the eight bytes, one for each old vertex.
-    found_held : (clique_answer P ≡ passed) × (branch P minimum ≡ some (take P.old.order r.mapping))
+    found_held : (clique_answer P ≡ passed) × (branch P minimum ≡ some (take P.old.order bytes))
     unfolding clique_call
     found_held =
         go (clique_answer P) (branch P minimum) refl refl (clique_plain P)
-        (sym (ap clique_answer_of arm) ∙ ap (λ (q : Called). q.answer) called) (ap (λ (q : Called). q.mapping) called)
+        (ap (λ (q : Called). q.answer) told) (ap (λ (q : Called). q.mapping) told)
       where
         go : (a : Answer) (held : Option (List ℕ)) → clique_answer P ≡ a → branch P minimum ≡ held → Plain a
-            → accepted 1 ≡ (call_on a held).answer → r.mapping ≡ (call_on a held).mapping
-            → (a ≡ passed) × (held ≡ some (take P.old.order r.mapping))
-        go passed none e b plain one bytes = absurd (let z : ◌≡◌ {A = ℕ} 1 0 = cc in omega arith)
-        go passed (some l) e b plain one bytes =
+            → accepted 1 ≡ (call_on a held).answer → bytes ≡ (call_on a held).mapping
+            → (a ≡ passed) × (held ≡ some (take P.old.order bytes))
+        go passed none e b plain one same = absurd (let z : ◌≡◌ {A = ℕ} 1 0 = cc in omega arith)
+        go passed (some l) e b plain one same =
             let long : P.old.order ≡ length l = sym (branch_length P (passes_clique P e).0 minimum l b) in
-            (refl, ap some (sym (ap (take P.old.order) bytes ∙ ap (λ (n : ℕ). take n (padded l)) long ∙ take-append_seam l (replicate (8 - length l) 0))))
-        go (accepted n) held e b plain one bytes = absurd plain
-        go (refused n) held e b plain one bytes = absurd (true≢false (cc))
-        go (refused_at n at) held e b plain one bytes = absurd (true≢false (cc))
+            (refl, ap some (sym (ap (take P.old.order) same ∙ ap (λ (n : ℕ). take n (padded l)) long ∙ take-append_seam l (replicate (8 - length l) 0))))
+        go (accepted n) held e b plain one same = absurd plain
+        go (refused n) held e b plain one same = absurd (true≢false (cc))
+        go (refused_at n at) held e b plain one same = absurd (true≢false (cc))
 
     -- these entries
     abbrev entries : List ℕ
-    entries = take P.old.order r.mapping
+    entries = take P.old.order bytes
 
     -- the reply, by whether they fit
     abbrev by_room : List ℕ → Bool → CliqueReply
@@ -67,8 +69,8 @@ module _ (P : Problem) (minimum : ℕ) (r : Branched) (called : called_of r ≡ 
     held_length = branch_length P (passes_clique P found_held.0).0 minimum entries found_held.1
 
     -- The eight are as many.
-    pub found_long : P.old.order ≤ length r.mapping
-    found_long = omega (arith, held_length, length-take P.old.order r.mapping)
+    pub found_long : P.old.order ≤ length bytes
+    found_long = omega (arith, held_length, length-take P.old.order bytes)
 
     held_reply_lem : (mapping : List ℕ) → held_reply (some entries) mapping ≡ branch_reply P minimum mapping
     unfolding branch_reply
@@ -93,25 +95,34 @@ module _ (P : Problem) (minimum : ℕ) (r : Branched) (called : called_of r ≡ 
         ∙ ap (by_room mapping) (sym (le-leb _ _ e))
         ∙ held_reply_lem mapping
 
-  -- the arm `_`: 1 to 3 are the tags of the answers that hold nothing
-  off_held : (a : CliqueAnswer) → OneOf (1 ∷ 2 ∷ 3 ∷ []) (tag_of clique_tags.the_type a) → clique_answer_of a ≡ accepted 1 → ⊥
-  off_held CliqueAnswer.Held k e = miss (1 ∷ 2 ∷ 3 ∷ []) 0 tt k
-  off_held CliqueAnswer.NothingHeld k e = let z : ◌≡◌ {A = ℕ} 0 1 = cc in omega arith
-  off_held (CliqueAnswer.Flawed f) k e = true≢false (cc)
-  off_held CliqueAnswer.ManyVertices k e = true≢false (cc)
-
-  -- Nothing held, or a refusal, is handed on.
-  pub branch_not_held : OneOf (1 ∷ 2 ∷ 3 ∷ []) (tag_of clique_tags.the_type r.answer) → (t : Reply) → t ≡ reply_of (clique_answer_of r.answer)
+  -- an answer of the call that is not 1
+  handed_on : (told : Answer) → told ≡ (called_of r).answer → (told ≡ accepted 1 → ⊥) → (t : Reply) → t ≡ reply_of told
       → (mapping : List ℕ) → no_mapping mapping t ≡ branch_reply P minimum mapping
   unfolding branch_reply clique_call
-  branch_not_held arm t replied mapping =
+  handed_on told is never t replied mapping =
       ap (no_mapping mapping) replied
-      ∙ go (clique_answer P) (branch P minimum) (off_held r.answer arm) (ap (λ (q : Called). q.answer) called)
+      ∙ go (clique_answer P) (branch P minimum) (is ∙ ap (λ (q : Called). q.answer) called)
     where
-      go : (a : Answer) (held : Option (List ℕ)) → (clique_answer_of r.answer ≡ accepted 1 → ⊥) → clique_answer_of r.answer ≡ (call_on a held).answer
-          → no_mapping mapping (reply_of (clique_answer_of r.answer)) ≡ reply_on a held mapping
-      go passed none never e = ap (λ (x : Answer). no_mapping mapping (reply_of x)) e
-      go passed (some l) never e = absurd (never e)
-      go (accepted n) held never e = ap (λ (x : Answer). no_mapping mapping (reply_of x)) e
-      go (refused n) held never e = ap (λ (x : Answer). no_mapping mapping (reply_of x)) e
-      go (refused_at n at) held never e = ap (λ (x : Answer). no_mapping mapping (reply_of x)) e
+      go : (a : Answer) (held : Option (List ℕ)) → told ≡ (call_on a held).answer → no_mapping mapping (reply_of told) ≡ reply_on a held mapping
+      go passed none e = ap (λ (x : Answer). no_mapping mapping (reply_of x)) e
+      go passed (some l) e = absurd (never e)
+      go (accepted n) held e = ap (λ (x : Answer). no_mapping mapping (reply_of x)) e
+      go (refused n) held e = ap (λ (x : Answer). no_mapping mapping (reply_of x)) e
+      go (refused_at n at) held e = ap (λ (x : Answer). no_mapping mapping (reply_of x)) e
+
+  -- Nothing held is told as 0.
+  pub branch_nothing : r ≡ Ok None → (t : Reply) → t ≡ reply_of (accepted 0) → (mapping : List ℕ) → no_mapping mapping t ≡ branch_reply P minimum mapping
+  branch_nothing arm =
+      handed_on (accepted 0) (sym (ap (λ (x : Result (Option.Option (List ℕ)) CliqueError). (called_of x).answer) arm))
+      (λ e. let z : ◌≡◌ {A = ℕ} 0 1 = cc in omega arith)
+
+  -- A refusal is handed on.
+  pub branch_refused : (e : CliqueError) → r ≡ Err e → (t : Reply) → t ≡ reply_of (clique_refusal e)
+      → (mapping : List ℕ) → no_mapping mapping t ≡ branch_reply P minimum mapping
+  branch_refused e arm =
+      handed_on (clique_refusal e) (sym (ap (λ (x : Result (Option.Option (List ℕ)) CliqueError). (called_of x).answer) arm))
+      (λ told. true≢false (sym (refused_error e) ∙ ap is_refused told))
+    where
+      refused_error : (e : CliqueError) → is_refused (clique_refusal e) ≡ true
+      refused_error (Flawed f) = refl
+      refused_error ManyVertices = refl

@@ -1,4 +1,4 @@
 pub mod CallKept
 pub mod CallArms
 pub mod CliqueReply
-pub mod OtherTags
+pub mod Refusals

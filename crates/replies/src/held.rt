@@ -16,9 +16,7 @@ fn put_front(list: &[u8], k: usize, out: &mut [u8])
     requires { (k ≤ length list.now) × (k ≤ length out.old) }
     ensures { out.new ≡ overwrite (take k list.now) out.old }
 {
-    for i in 0..k {
-        out[i] = list[i];
-    }
+    out[..k].copy_from_slice(&list[..k]);
 }
 
 // The same, and how many of them are pairs.

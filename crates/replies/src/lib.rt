@@ -1,65 +1,89 @@
 // What a caller outside Rattle gets, in numbers: the reply to an answer, to a search call on checkpoint bytes, to a reading out
-// of them, to clique branching, to the step limit foretold, and to the writing of a number's text.
+// of them, and to clique branching.
 
 #![tactic(auto)]
 
 mod held;
-mod values;
 mod words;
 
-ghost use Rattle.std.specs.Prelude.{◌≡◌, ◌≤◌, get_or};
-ghost use Rattle.reasons.specs.Answers.{reason_answer};
-ghost use Rattle.graph_reader.specs.Answers.{read_answer};
-ghost use Rattle.graph_writer.specs.Answers.{move_answer};
+ghost use Rattle.std.specs.Prelude.{◌≡◌, ◌≤◌};
+ghost use Rattle.answers.specs.Answer.{counted, accepted};
 ghost use Rattle.problem.specs.Lent.{lent};
 ghost use Rattle.mapping.specs.Answers.{mapping_outcome};
-ghost use Rattle.step_limit.specs.Answers.{limit_answer_of};
-ghost use Rattle.clique.specs.Answers.{clique_answer_of};
-ghost use Rattle.search.specs.Answers.{search_answer};
-ghost use Rattle.checkpoint_saver.specs.Answers.{save_answer};
-ghost use Rattle.checkpoint_loader.specs.Answers.{load_answer};
-ghost use Rattle.replies.specs.Reply.{reply_of};
-ghost use Rattle.replies.specs.Checked.{checked, checked_by};
+ghost use Rattle.replies.specs.Reply.{reply, reply_of};
+ghost use Rattle.replies.specs.Checked.{checked, checked_by, earlier_row};
 ghost use Rattle.replies.specs.Apart.{words_used, used_cleared};
 ghost use Rattle.replies.specs.Resumed.{resumed, search_from, resume_from};
 ghost use Rattle.replies.specs.ReadOut.{read_out, read_checkpoint, read_bytes};
 ghost use Rattle.replies.specs.CliqueReply.{clique_reply, branch_reply};
 
+use answers::Refusal;
 use checkpoint::Checkpoint;
-use checkpoint_loader::LoadAnswer;
-use checkpoint_saver::SaveAnswer;
-use clique::CliqueAnswer;
-use graph_reader::ReadAnswer;
-use graph_writer::MoveAnswer;
-use mapping::MappingAnswer;
-use problem::{Edges, Labels, Orders};
-use reasons::ReasonAnswer;
-use search::{SearchAnswer, WORDS};
-use step_limit::LimitAnswer;
+use checkpoint_saver::SaveError;
+use mapping::{Checked, MappingError};
+use problem::Problem;
+use search::WORDS;
 
-// The document's number of a refusal, or 0, and the value that goes with it.
-#[derive(Clone, Copy)]
+// The document's number of a refusal, or 0, and the value that goes with it. These are what C gets.
+#[derive(Clone, Copy, Debug, PartialEq, Eq)]
 pub struct Reply {
     pub number: u32,
     pub value: u64,
 }
 
+impl Reply {
+    // The reply to an accepted call: its count, order, size, state or limit.
+    pub fn accepted(value: u64) -> Reply
+        ensures { result ≡ reply_of (accepted value) }
+    {
+        Reply { number: 0, value }
+    }
+
+    // The reply to a refused call: its place, where it has one.
+    pub fn refused<E: Refusal>(error: E) -> Reply
+        ensures { result ≡ reply_of (E.says error) }
+    {
+        Reply {
+            number: error.number() as u32,
+            value: error.place() as u64,
+        }
+    }
+
+    // How a function of C answers: the number, with the value stored.
+    pub fn tell(self, value: &mut u64) -> u32
+        ensures { reply result value.new ≡ self }
+    {
+        *value = self.value;
+        self.number
+    }
+
+    // The reply to an answer, accepted or refused.
+    pub fn of<E: Refusal>(answer: Result<usize, E>) -> Reply
+        ensures { result ≡ reply_of (counted E.says answer) }
+    {
+        match answer {
+            Ok(value) => Reply::accepted(value as u64),
+            Err(error) => Reply::refused(error),
+        }
+    }
+}
+
 // A reply, and the earlier row, or the same row where it is held against itself.
-#[derive(Clone, Copy)]
+#[derive(Clone, Copy, Debug, PartialEq, Eq)]
 pub struct MappingReply {
     pub reply: Reply,
     pub earlier: u64,
 }
 
 // A reply, and the ceiling.
-#[derive(Clone, Copy)]
+#[derive(Clone, Copy, Debug, PartialEq, Eq)]
 pub struct ResumeReply {
     pub reply: Reply,
     pub ceiling: u64,
 }
 
 // A reply, whose value is the state, and a checkpoint's numbers.
-#[derive(Clone, Copy)]
+#[derive(Clone, Copy, Debug, PartialEq, Eq)]
 pub struct ReadReply {
     pub reply: Reply,
     pub steps: u64,
@@ -68,93 +92,29 @@ pub struct ReadReply {
 }
 
 // A reply, whose value says whether a mapping is held, and the mapping's size.
-#[derive(Clone, Copy)]
+#[derive(Clone, Copy, Debug, PartialEq, Eq)]
 pub struct BranchReply {
     pub reply: Reply,
     pub size: u64,
 }
 
-pub fn of_read(answer: ReadAnswer) -> Reply
-    ensures { result ≡ reply_of (read_answer answer) }
+// The earlier row, where two rows clash, or the same row where it is held against itself.
+fn earlier_row(answer: Checked) -> u64
+    ensures { result ≡ earlier_row (mapping_outcome answer) }
 {
-    Reply {
-        number: graph_reader::read_number(answer) as u32,
-        value: values::read_value(answer),
+    match answer {
+        Err(MappingError::SameImage(_, earlier)) => earlier.0 as u64,
+        Err(MappingError::EdgesDiffer(_, earlier)) => earlier.0 as u64,
+        _ => 0,
     }
 }
 
-pub fn of_move(answer: MoveAnswer) -> Reply
-    ensures { result ≡ reply_of (move_answer answer) }
-{
-    Reply {
-        number: graph_writer::move_number(answer) as u32,
-        value: values::move_value(answer),
-    }
-}
-
-pub fn of_reason(answer: ReasonAnswer) -> Reply
-    ensures { result ≡ reply_of (reason_answer answer) }
-{
-    Reply {
-        number: reasons::reason_number(answer) as u32,
-        value: values::reason_value(answer),
-    }
-}
-
-pub fn of_save(answer: SaveAnswer) -> Reply
-    ensures { result ≡ reply_of (save_answer answer) }
-{
-    Reply {
-        number: checkpoint_saver::save_number(answer) as u32,
-        value: values::save_value(answer),
-    }
-}
-
-pub fn of_load(answer: LoadAnswer) -> Reply
-    ensures { result ≡ reply_of (load_answer answer) }
-{
-    Reply {
-        number: checkpoint_loader::load_number(answer) as u32,
-        value: values::load_value(answer),
-    }
-}
-
-pub fn of_search(answer: SearchAnswer) -> Reply
-    ensures { result ≡ reply_of (search_answer answer) }
-{
-    Reply {
-        number: search::search_number(answer) as u32,
-        value: values::search_value(answer),
-    }
-}
-
-fn of_clique(answer: CliqueAnswer) -> Reply
-    ensures { result ≡ reply_of (clique_answer_of answer) }
-{
-    Reply {
-        number: clique::clique_number(answer) as u32,
-        value: values::clique_value(answer),
-    }
-}
-
-pub fn of_limit(answer: LimitAnswer) -> Reply
-    ensures { result ≡ reply_of (limit_answer_of answer) }
-{
-    Reply {
-        number: step_limit::limit_number(answer) as u32,
-        value: values::limit_value(answer),
-    }
-}
-
-pub fn of_mapping(answer: MappingAnswer) -> MappingReply
+pub fn of_mapping(answer: Checked) -> MappingReply
     ensures { checked result.reply result.earlier ≡ checked_by (mapping_outcome answer) }
 {
     MappingReply {
-        reply: Reply {
-            number: mapping::mapping_number(answer) as u32,
-            value: values::mapping_value(answer),
-        },
-        earlier: values::earlier_row(answer),
+        reply: Reply::of(answer),
+        earlier: earlier_row(answer),
     }
 }
 
@@ -162,7 +122,7 @@ pub fn of_mapping(answer: MappingAnswer) -> MappingReply
 pub fn words_used(words: usize) -> usize
     ensures { result ≡ words_used words }
 {
-    if words < WORDS { words } else { WORDS }
+    WORDS.min(words)
 }
 
 // These become 0.
@@ -170,17 +130,12 @@ pub fn clear_words(workspace: &mut [u64])
     ensures { workspace.new ≡ used_cleared workspace.old }
 {
     let used = words_used(workspace.len());
-    for i in 0..used {
-        workspace[i] = 0;
-    }
+    workspace[..used].fill(0);
 }
 
 // The search call, and its checkpoint saved; only then does the lent workspace become what the call leaves.
 fn search_and_save<'a>(
-    orders: Orders,
-    labels: Labels<'a>,
-    edges: Edges<'a>,
-    substitutes: &[u8],
+    problem: Problem<'a>,
     connected: bool,
     checkpoint: Checkpoint,
     budget: u64,
@@ -188,52 +143,29 @@ fn search_and_save<'a>(
     next: &mut [u8],
 ) -> ResumeReply
     ensures { resumed result.reply result.ceiling workspace.new next.new
-        ≡ search_from connected (lent orders labels.entry edges.entry substitutes.now) checkpoint budget
-        workspace.old next.old }
+        ≡ search_from connected (lent problem.entry) checkpoint budget workspace.old next.old }
 {
     let lent = workspace.len();
-    let searched = words::search_apart(
-        orders,
-        labels,
-        edges,
-        substitutes,
-        connected,
-        checkpoint,
-        budget,
-        lent,
-    );
-    let answer = searched.answer;
+    let searched = words::search_apart(problem, connected, checkpoint, budget, lent);
     let advanced = searched.checkpoint;
-    match answer {
-        SearchAnswer::Ceiling(ceiling) => {
-            let saved = checkpoint_saver::save_checkpoint(
-                orders,
-                labels,
-                edges,
-                substitutes,
-                connected,
-                advanced,
-                next,
-            );
-            match saved {
-                SaveAnswer::Written(count) => {
+    match searched.answer {
+        Ok(ceiling) => {
+            match checkpoint_saver::save_checkpoint(problem, connected, advanced, next) {
+                Ok(count) => {
                     clear_words(workspace);
                     ResumeReply {
-                        reply: Reply {
-                            number: 0,
-                            value: count as u64,
-                        },
+                        reply: Reply::accepted(count as u64),
                         ceiling: ceiling as u64,
                     }
                 }
-                _ => ResumeReply {
-                    reply: of_save(saved),
+                Err(error) => ResumeReply {
+                    reply: Reply::refused(error),
                     ceiling: 0,
                 },
             }
         }
-        _ => ResumeReply {
-            reply: of_search(answer),
+        Err(error) => ResumeReply {
+            reply: Reply::refused(error),
             ceiling: 0,
         },
     }
@@ -241,10 +173,7 @@ fn search_and_save<'a>(
 
 // The checkpoint loaded, the search call on it, and its checkpoint saved to the front of `next`; 270 bytes are always room enough.
 pub fn resume<'a>(
-    orders: Orders,
-    labels: Labels<'a>,
-    edges: Edges<'a>,
-    substitutes: &[u8],
+    problem: Problem<'a>,
     connected: bool,
     bytes: &[u8],
     budget: u64,
@@ -252,33 +181,14 @@ pub fn resume<'a>(
     next: &mut [u8],
 ) -> ResumeReply
     ensures { resumed result.reply result.ceiling workspace.new next.new
-        ≡ resume_from connected (lent orders labels.entry edges.entry substitutes.now) bytes.now budget
-        workspace.old next.old }
+        ≡ resume_from connected (lent problem.entry) bytes.now budget workspace.old next.old }
 {
-    let loaded = checkpoint_loader::load_checkpoint(
-        orders,
-        labels,
-        edges,
-        substitutes,
-        connected,
-        bytes,
-    );
-    let answer = loaded.answer;
-    let checkpoint = loaded.checkpoint;
-    match answer {
-        LoadAnswer::InShape => search_and_save(
-            orders,
-            labels,
-            edges,
-            substitutes,
-            connected,
-            checkpoint,
-            budget,
-            workspace,
-            next,
-        ),
-        _ => ResumeReply {
-            reply: of_load(answer),
+    match checkpoint_loader::load_checkpoint(problem, connected, bytes) {
+        Ok(checkpoint) => {
+            search_and_save(problem, connected, checkpoint, budget, workspace, next)
+        }
+        Err(error) => ResumeReply {
+            reply: Reply::refused(error),
             ceiling: 0,
         },
     }
@@ -286,50 +196,34 @@ pub fn resume<'a>(
 
 // The numbers of a checkpoint, and what it holds, to the front of `mapping`.
 fn read_checkpoint<'a>(
-    orders: Orders,
-    labels: Labels<'a>,
-    edges: Edges<'a>,
-    substitutes: &[u8],
+    problem: Problem<'a>,
     connected: bool,
     checkpoint: Checkpoint,
     mapping: &mut [u8],
 ) -> ReadReply
-    requires { get_or orders 0 0 ≤ 64 }
+    requires { problem.old.order ≤ 64 }
     ensures { read_out result.reply result.steps result.size result.ceiling mapping.new
-        ≡ read_checkpoint connected (lent orders labels.entry edges.entry substitutes.now) checkpoint mapping.old }
+        ≡ read_checkpoint connected (lent problem.entry) checkpoint mapping.old }
 {
-    let entries = held::entries_held(checkpoint.holds, orders[0]);
+    let entries = held::entries_held(checkpoint.holds, problem.old.order);
     if mapping.len() < entries {
         return ReadReply {
-            reply: Reply {
-                number: 13,
-                value: 0,
-            },
+            reply: Reply::refused(SaveError::TooShort),
             steps: 0,
             size: 0,
             ceiling: 0,
         };
     }
     let mut workspace = [0u64; WORDS];
-    let searched = search::search(
-        orders,
-        labels,
-        edges,
-        substitutes,
-        connected,
-        checkpoint,
-        0,
-        &mut workspace,
-    );
-    let answer = searched.answer;
+    let searched = search::search(problem, connected, checkpoint, 0, &mut workspace);
     let incumbent = checkpoint.incumbent;
-    let ceiling = values::search_value(answer);
+    // a checkpoint that was loaded is not refused
+    let ceiling = searched.answer.unwrap_or(0) as u64;
     let size = held::put_entries(&incumbent, entries, mapping);
     ReadReply {
-        reply: Reply {
-            number: 0,
-            value: checkpoint_saver::state_byte(checkpoint.finished, checkpoint.holds) as u64,
-        },
+        reply: Reply::accepted(
+            checkpoint_saver::state_byte(checkpoint.finished, checkpoint.holds) as u64,
+        ),
         steps: checkpoint.steps,
         size,
         ceiling,
@@ -338,39 +232,18 @@ fn read_checkpoint<'a>(
 
 // The checkpoint loaded, and read out.
 pub fn read_out<'a>(
-    orders: Orders,
-    labels: Labels<'a>,
-    edges: Edges<'a>,
-    substitutes: &[u8],
+    problem: Problem<'a>,
     connected: bool,
     bytes: &[u8],
     mapping: &mut [u8],
 ) -> ReadReply
     ensures { read_out result.reply result.steps result.size result.ceiling mapping.new
-        ≡ read_bytes connected (lent orders labels.entry edges.entry substitutes.now) bytes.now mapping.old }
+        ≡ read_bytes connected (lent problem.entry) bytes.now mapping.old }
 {
-    let loaded = checkpoint_loader::load_checkpoint(
-        orders,
-        labels,
-        edges,
-        substitutes,
-        connected,
-        bytes,
-    );
-    let answer = loaded.answer;
-    let checkpoint = loaded.checkpoint;
-    match answer {
-        LoadAnswer::InShape => read_checkpoint(
-            orders,
-            labels,
-            edges,
-            substitutes,
-            connected,
-            checkpoint,
-            mapping,
-        ),
-        _ => ReadReply {
-            reply: of_load(answer),
+    match checkpoint_loader::load_checkpoint(problem, connected, bytes) {
+        Ok(checkpoint) => read_checkpoint(problem, connected, checkpoint, mapping),
+        Err(error) => ReadReply {
+            reply: Reply::refused(error),
             steps: 0,
             size: 0,
             ceiling: 0,
@@ -379,43 +252,31 @@ pub fn read_out<'a>(
 }
 
 // Clique branching, and the mapping that it holds, to the front of `mapping`; eight bytes are always room enough.
-pub fn branch<'a>(
-    orders: Orders,
-    labels: Labels<'a>,
-    edges: Edges<'a>,
-    substitutes: &[u8],
-    minimum: u8,
-    mapping: &mut [u8],
-) -> BranchReply
+pub fn branch<'a>(problem: Problem<'a>, minimum: u8, mapping: &mut [u8]) -> BranchReply
     ensures { clique_reply result.reply result.size mapping.new
-        ≡ branch_reply (lent orders labels.entry edges.entry substitutes.now) minimum mapping.old }
+        ≡ branch_reply (lent problem.entry) minimum mapping.old }
 {
-    let found = clique::branch(orders, labels, edges, substitutes, minimum);
-    let answer = found.answer;
-    let entries = found.mapping;
-    match answer {
-        CliqueAnswer::Held => {
-            let order = orders[0];
+    match clique::branch(problem, minimum) {
+        Ok(Some(entries)) => {
+            let order = problem.old.order;
             if mapping.len() < order {
                 return BranchReply {
-                    reply: Reply {
-                        number: 13,
-                        value: 0,
-                    },
+                    reply: Reply::refused(SaveError::TooShort),
                     size: 0,
                 };
             }
             let size = held::put_entries(&entries, order, mapping);
             BranchReply {
-                reply: Reply {
-                    number: 0,
-                    value: 1,
-                },
+                reply: Reply::accepted(1),
                 size,
             }
         }
-        _ => BranchReply {
-            reply: of_clique(answer),
+        Ok(None) => BranchReply {
+            reply: Reply::accepted(0),
+            size: 0,
+        },
+        Err(error) => BranchReply {
+            reply: Reply::refused(error),
             size: 0,
         },
     }

@@ -6,33 +6,21 @@ ghost use Rattle.search.specs.Call.{search_call};
 ghost use Rattle.replies.specs.Apart.{FoundBy};
 
 use checkpoint::Checkpoint;
-use problem::{Edges, Labels, Orders};
+use problem::Problem;
 use search::{Searched, WORDS};
 
 // The search call as over any lent workspace of so many words: too few of them are refused.
 pub fn search_apart<'a>(
-    orders: Orders,
-    labels: Labels<'a>,
-    edges: Edges<'a>,
-    substitutes: &[u8],
+    problem: Problem<'a>,
     connected: bool,
     checkpoint: Checkpoint,
     budget: u64,
     words: usize,
 ) -> Searched
     ensures { (workspace : List ℕ) → length workspace ≡ words
-        → FoundBy result (search_call connected (lent orders labels.entry edges.entry substitutes.now) checkpoint budget workspace) }
+        → FoundBy result (search_call connected (lent problem.entry) checkpoint budget workspace) }
 {
     let mut own = [0u64; WORDS];
     let used = super::words_used(words);
-    search::search(
-        orders,
-        labels,
-        edges,
-        substitutes,
-        connected,
-        checkpoint,
-        budget,
-        &mut own[..used],
-    )
+    search::search(problem, connected, checkpoint, budget, &mut own[..used])
 }

@@ -1,4 +1,4 @@
--- What the tables that are lent to a call's visits hold for each row.
+-- What the tables that are lent to a call's visits hold for each row (01, "The walk").
 use Rattle.std.specs.Prelude.{◌≡◌, false, List, ℕ, ◌+◌, ◌<◌, length, get_or}
 use Rattle.bitset.specs.Members.{member}
 use Rattle.graph.specs.Graph.{place}

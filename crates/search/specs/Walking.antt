@@ -48,7 +48,7 @@ pub record AtRow (P : Problem) (path : List ℕ) (row pairs : ℕ) (workspace : 
   pub pairs_are : pairs ≡ size (take row path)
   pub words : Words P path row workspace
 
--- what keeps the code's reads and writes in bounds, whatever the problem
+-- what keeps the code's reads and writes in bounds beside the lengths of the tables, whatever the problem
 pub record InBounds (path : List ℕ) (depth pairs : ℕ) (workspace : List ℕ) : Type 0 where
   pub path_length : length path ≡ 64
   pub room : 4160 ≤ length workspace

@@ -1,5 +1,5 @@
 -- Laws of a text put into a buffer; the chief one: two texts put one after the other are one text put.
-use mathlib.Core.Path.{◌≡◌, sym, ap, subst, ◌∙◌}
+use mathlib.Core.Path.{◌≡◌, refl, sym, ap, subst, ◌∙◌}
 use mathlib.Core.List.{List, [], ◌∷◌, ◌++◌}
 use Prim.Native.Nat.{ℕ, zero, suc, ◌+◌, ◌-◌, ◌≤◌, ◌<◌}
 use native.Mathlib.Nat.{add-zero, zero-add, sub-zero, zero-sub}
@@ -77,6 +77,14 @@ put_front {text} {before} put h =
 pub writes_same : {s t : List ℕ} {before after : Writer} → s ≡ t → Writes s before after → Writes t before after
 writes_same e put = record { same_buffer = put.same_buffer; text_put = put_same e put.text_put }
 
+pub writes_none : (writer : Writer) → Writes [] writer writer
+writes_none writer = record { same_buffer = refl; text_put = put_none writer.out.now writer.at }
+
 pub writes_then : {s t : List ℕ} {before mid after : Writer} → Writes s before mid → Writes t mid after → Writes (s ++ t) before after
 writes_then first next =
     record { same_buffer = next.same_buffer ∙ first.same_buffer; text_put = put_then first.text_put next.text_put }
+
+-- What a writer puts from the front of its buffer on.
+pub writes_front : {text buffer : List ℕ} {count : ℕ} {before after : Writer} → Writes text before after → before.at ≡ 0 → before.out.now ≡ buffer
+    → count ≡ after.at → Put text buffer 0 count after.out.now
+writes_front put front same counted = rw (← front, ← same, counted) put.text_put

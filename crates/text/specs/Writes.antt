@@ -1,4 +1,4 @@
--- What a writer puts into the buffer that it holds: the text follows what was put before, and the buffer stays the one that was lent.
+-- What a writer puts into the buffer that it holds: the text follows what was put before, and the buffer stays the one that was lent (01, "The refit program").
 use Rattle.std.specs.Prelude.{◌≡◌, List, ℕ}
 use Rattle.text.specs.declared.Writer.{Writer}
 use Rattle.text.specs.Put.{Put}

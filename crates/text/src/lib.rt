@@ -15,7 +15,16 @@ pub struct Writer<'a> {
 }
 
 impl<'a> Writer<'a> {
-    // Texts are put from the front on.
+    // Texts are put from a place on, which may be past the end.
+    pub fn at(out: &'a mut [u8], at: usize) -> Writer<'a>
+        ensures same_reference { result.out.ghost_name ≡ out.entry.ghost_name }
+        ensures place { result.at ≡ at }
+        ensures unchanged { result.out.now ≡ out.old }
+    {
+        Writer { out, at }
+    }
+
+    // From the front on.
     pub fn new(out: &'a mut [u8]) -> Writer<'a>
         ensures same_reference { result.out.ghost_name ≡ out.entry.ghost_name }
         ensures front { result.at ≡ 0 }

@@ -6,4 +6,4 @@ use Rattle.c_api.proofs.golfcedar_reason.Goals as goal
 
 pub returns : goal.returns
 returns c =
-    ap (λ (q : Reply). wrote q c.reason.new.out) c.of_reason-reply.ensures ∙ ap wrote_by c.reason.ensures
+    ap (λ (q : Reply). wrote q c.reason.new.out) (c.tell.ensures ∙ c.of-reply.ensures) ∙ ap wrote_by c.reason.ensures

@@ -7,4 +7,4 @@ use Rattle.c_api.proofs.golfcedar_to_edition_2.Goals as goal
 
 pub returns : goal.returns
 returns c =
-    ap (λ (q : Reply). wrote q c.to_edition_2.new.out) c.of_move-reply.ensures ∙ ap wrote_by c.to_edition_2.ensures
+    ap (λ (q : Reply). wrote q c.to_edition_2.new.out) (c.tell.ensures ∙ c.of-reply.ensures) ∙ ap wrote_by c.to_edition_2.ensures

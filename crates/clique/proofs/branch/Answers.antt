@@ -36,9 +36,9 @@ returns-then-problem-gt-MAX_OLD c =
     let p = c.args.problem in
     simp (told_passed (goal.at.returns-then-problem-gt-MAX_OLD c).In_ok-check, lt-leb p.old.order 8 (omega (arith, c.if-problem-gt-MAX_OLD.true)))
 
-pub branch-held-requires : goal.branch-held-requires
-branch-held-requires c =
-    lent_small c.args.problem (told_sound (goal.at.branch-held-requires c).In_ok-check) c.allowed_sets-sets.ensures (omega (arith, c.if-problem-gt-MAX_OLD.false))
+pub invariant_of-allowed : goal.invariant_of-allowed
+invariant_of-allowed c =
+    record { small = lent_small c.args.problem (told_sound (goal.at.invariant_of-allowed c).In_ok-check) c.allowed_sets-sets.ensures (omega (arith, c.if-problem-gt-MAX_OLD.false)) }
 
 pub returns : goal.returns
 unfolding clique_call clique_answer

@@ -7,3 +7,6 @@ use Rattle.descend.proofs.descend.Given as goal
 abbrev pub invariant-loop-top : goal.invariant-loop-top
 invariant-loop-top l =
     Going l.connected (lent l.problem) l.floor l.initial.at l.budget l.initial.workspace l.at l.left l.visits l.workspace
+
+abbrev pub decreases-loop-top : goal.decreases-loop-top
+decreases-loop-top l = l.at.minimum

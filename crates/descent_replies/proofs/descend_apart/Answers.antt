@@ -12,5 +12,5 @@ slice_bounds-descend-end c = sym (own_length _ _ c.words_used-used.ensures)
 pub returns : goal.returns
 returns c =
     let a = c.args in
-    descended_apart a.connected (lent a.orders a.labels a.edges a.substitutes.now) a.floor a.checkpoint a.budget c.descend.result _ _ c.descend.ensures
+    descended_apart a.connected (lent a.problem) a.floor a.checkpoint a.budget c.descend.result _ _ c.descend.ensures
     _ (own_test _ _ c.words_used-used.ensures)

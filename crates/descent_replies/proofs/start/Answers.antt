@@ -9,4 +9,4 @@ pub returns : goal.returns
 returns c =
     let a = c.args in
     c.save_checkpoint.ensures
-    ∙ ap (λ (s : Started). saving a.connected (lent a.orders a.labels a.edges a.substitutes.now) s.checkpoint a.out.now) c.start-started.ensures
+    ∙ ap (λ (s : Started). saving a.connected (lent a.problem) s.checkpoint a.out.now) c.start-started.ensures

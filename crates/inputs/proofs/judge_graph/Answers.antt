@@ -5,4 +5,4 @@ use Rattle.replies.specs.Reply.{reply_of}
 use Rattle.inputs.proofs.judge_graph.Goals as goal
 
 pub returns : goal.returns
-returns c = c.of_read.ensures ∙ ap (λ (r : Reading). reply_of r.answer) c.read_graph.ensures
+returns c = c.of.ensures ∙ ap (λ (r : Reading). reply_of r.answer) c.read_graph.ensures

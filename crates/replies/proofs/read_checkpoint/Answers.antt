@@ -1,13 +1,15 @@
 -- `replies::read_checkpoint` meets its contract: what is held fits or is refused, and the ceiling is that of a call that makes no visit
 -- (`CallArms`). Assumes nothing.
-use mathlib.Core.Path.{◌≡◌, sym}
+use mathlib.Core.Path.{◌≡◌, sym, ap, ◌∙◌}
 use Prim.Native.Nat.{◌≤◌}
 use native.Mathlib.Omega.{arith}
 use borrow.Author.Rules.{rules}
 use lib.ListN.{length}
 use Rattle.problem.specs.Lent.{lent}
 use Rattle.checkpoint_saver.proofs.SavedLength.{incumbent_few}
-use Rattle.replies.proofs.CallArms.{read_short, read_numbers}
+use Rattle.replies.specs.ReadOut.{read_out, not_read_out}
+use Rattle.replies.specs.declared.Reply.{Reply}
+use Rattle.replies.proofs.CallArms.{read_short, read_numbers, search_value}
 use Rattle.replies.proofs.read_checkpoint.Goals as goal
 use Rattle.replies.proofs.read_checkpoint.Goals.{Start}
 
@@ -16,7 +18,8 @@ incumbent_long s = search rules
 
 pub returns-then-mapping-entries : goal.returns-then-mapping-entries
 returns-then-mapping-entries c =
-    read_short c.args.connected (lent c.args.orders c.args.labels c.args.edges c.args.substitutes.now) c.args.checkpoint c.args.mapping.now _ c.entries_held-entries.ensures c.requires (incumbent_long (goal.at.returns-then-mapping-entries c).Start) c.if-mapping-entries.true
+    ap (not_read_out c.args.mapping.now) c.refused.ensures
+    ∙ read_short c.args.connected (lent c.args.problem) c.args.checkpoint c.args.mapping.now _ c.entries_held-entries.ensures c.requires (incumbent_long (goal.at.returns-then-mapping-entries c).Start) c.if-mapping-entries.true
 
 pub slice_bounds-put_entries-end : goal.slice_bounds-put_entries-end
 slice_bounds-put_entries-end c = sym (incumbent_long (goal.at.slice_bounds-put_entries-end c).Start)
@@ -24,11 +27,12 @@ slice_bounds-put_entries-end c = sym (incumbent_long (goal.at.slice_bounds-put_e
 pub put_entries-size-requires : goal.put_entries-size-requires
 put_entries-size-requires c =
     let few : c.entries_held-entries.result ≤ length c.args.checkpoint.incumbent =
-    omega (arith, c.entries_held-entries.ensures, incumbent_few (lent c.args.orders c.args.labels c.args.edges c.args.substitutes.now).old.order c.args.checkpoint.holds, c.requires, incumbent_long (goal.at.put_entries-size-requires c).Start) in
+    omega (arith, c.entries_held-entries.ensures, incumbent_few (lent c.args.problem).old.order c.args.checkpoint.holds, c.requires, incumbent_long (goal.at.put_entries-size-requires c).Start) in
     (few, c.if-mapping-entries.false)
 
 pub returns : goal.returns
 returns c =
-    read_numbers c.args.connected (lent c.args.orders c.args.labels c.args.edges c.args.substitutes.now) c.args.checkpoint c.args.mapping.now _ c.entries_held-entries.ensures c.requires (incumbent_long (goal.at.returns c).Start)
+    ap (λ (r : Reply). read_out r c.args.checkpoint.steps c.put_entries-size.result c.unwrap_or-ceiling.result c.put_entries-size.new.out) c.accepted.ensures
+    ∙ read_numbers c.args.connected (lent c.args.problem) c.args.checkpoint c.args.mapping.now _ c.entries_held-entries.ensures c.requires (incumbent_long (goal.at.returns c).Start)
     c.if-mapping-entries.false _ _ _ _ c.search-searched.result _ c.state_byte.ensures c.put_entries-size.ensures.size c.put_entries-size.ensures.stored
-    c.search-searched.ensures c.search_value-ceiling.ensures
+    c.search-searched.ensures (c.unwrap_or-ceiling.ensures ∙ search_value c.search-searched.result.answer)

@@ -10,4 +10,4 @@ returns c =
     let row = c.before in
     let entry = row.before in
     let a = entry.args in
-    eight_same a.edges.now a.a a.b _ _ (λ i. omega (arith, entry.shared_slice_known-1.given i)) row.eight-row.ensures c.eight-column.ensures
+    eight_same a.edges.now a.a a.b _ _ (λ i. omega (arith, entry.fits-edges i)) row.eight-row.ensures c.eight-column.ensures

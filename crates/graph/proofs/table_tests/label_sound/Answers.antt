@@ -8,6 +8,7 @@ use native.Mathlib.Omega.{arith}
 use lib.Dec.{leb, eqb}
 use lib.ListN.{get_or}
 use Rattle.graph.proofs.Labels.{label_leb}
+use Rattle.std.proofs.Common.{Fits, w16, rules}
 use Rattle.graph.proofs.table_tests.label_sound.Goals as goal
 
 not_zero : (x : ℕ) → not (eqb x 0) ≡ leb 1 x
@@ -15,8 +16,9 @@ not_zero zero = refl
 not_zero (suc x) = simp (ne_eqb (suc x) 0 (omega arith), le-leb 1 (suc x) (omega arith))
 
 pub returns-then-v-order : goal.returns-then-v-order
-returns-then-v-order c = simp (lt-ltb _ _ c.if-v-order.true, label_leb (c.shared_slice_known-1.given c.args.v), and-true)
-    (not_zero (get_or c.args.labels.now c.args.v 0))
+returns-then-v-order c =
+    let fits : Fits w16 (get_or c.args.labels.now c.args.v 0) = search rules in
+    simp (lt-ltb _ _ c.if-v-order.true, label_leb fits, and-true) (not_zero (get_or c.args.labels.now c.args.v 0))
 
 pub returns : goal.returns
 returns c = simp (le-ltb _ _ c.if-v-order.false)

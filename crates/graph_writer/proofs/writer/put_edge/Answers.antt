@@ -2,7 +2,7 @@
 -- Assumes nothing.
 use mathlib.Core.List.{[], ◌∷◌}
 use native.Mathlib.Omega.{arith}
-use Rattle.graph_writer.proofs.Counts.{part_sets}
+use Rattle.graph_writer.proofs.Parts.{part_sets}
 use Rattle.graph_writer.proofs.writer.put_edge.Goals as goal
 
 pub returns : goal.returns

@@ -12,6 +12,9 @@ use Rattle.graph_writer.specs.Writing.{listed, edge_bytes, row_bytes}
 use Rattle.graph_writer.proofs.writer.write_row.Goals as goal
 use Rattle.graph_writer.proofs.writer.write_row.Goals.{Then-is_listed, else-is_listed, then-is_listed}
 
+pub loop-b-init : goal.loop-b-init
+loop-b-init c = stored_none _ _ _ _
+
 -- a listed edge takes its command's bytes
 listed_bytes : (g : Graph) (a b : ℕ) → listed g a b ≡ true → edge_bytes g a b ≡ 2 ∷ a ∷ b ∷ edge g a b ∷ []
 listed_bytes g a b e = ap (λ (t : Bool). cond t (2 ∷ a ∷ b ∷ edge g a b ∷ []) []) e
@@ -19,9 +22,6 @@ listed_bytes g a b e = ap (λ (t : Bool). cond t (2 ∷ a ∷ b ∷ edge g a b �
 -- any other takes none
 unlisted_bytes : (g : Graph) (a b : ℕ) → listed g a b ≡ false → edge_bytes g a b ≡ []
 unlisted_bytes g a b e = ap (λ (t : Bool). cond t (2 ∷ a ∷ b ∷ edge g a b ∷ []) []) e
-
-pub loop-b-init : goal.loop-b-init
-loop-b-init c = stored_none _ _ _ _
 
 -- where the turn's edge is listed, its 4 bytes have room
 room : (c : Then-is_listed) → c.loop-b.at + 4 ≤ length c.loop-b.out
@@ -53,9 +53,6 @@ loop-b-preserved c =
       | else-is_listed w ↦ let bytes = unlisted_bytes g args.a l.b (told ∙ w.if-is_listed.false) in
           more (omega (arith, w.at-is, ap length bytes)) (w.out-is ∙ ap (sets l.out l.at) (sym bytes))
     ]
-
-pub shape_of-out : goal.shape_of-out
-shape_of-out c = c.loop-b.invariant.kept
 
 pub returns : goal.returns
 unfolding row_bytes

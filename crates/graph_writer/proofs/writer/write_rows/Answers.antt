@@ -1,5 +1,5 @@
 use native.Mathlib.Omega.{arith}
-use Rattle.answers.proofs.Stores.{stored_none, stored_more, stored_room, stored_all}
+use Rattle.answers.proofs.Stores.{stored_none, stored_more, stored_room}
 use Rattle.graph_writer.proofs.writer.write_rows.Goals as goal
 
 pub loop-a-init : goal.loop-a-init
@@ -12,11 +12,3 @@ write_row-at-requires c =
 pub loop-a-preserved : goal.loop-a-preserved
 loop-a-preserved c =
     stored_more _ _ _ _ _ _ _ c.loop-a.invariant c.loop-a-test.true _ _ c.write_row-at.ensures.place c.write_row-at.ensures.bytes
-
-pub shape_of-out : goal.shape_of-out
-shape_of-out c = c.loop-a.invariant.kept
-
-pub returns : goal.returns
-returns c =
-    let all = stored_all _ _ _ _ _ _ _ c.loop-a.invariant c.loop-a-test.false in
-    record { place = all.0; bytes = all.1 }

@@ -5,5 +5,5 @@ use Rattle.graph.specs.Lent.{lent_graph}
 use Rattle.graph_writer.specs.Writing.{vertex_bytes}
 use Rattle.graph_writer.proofs.writer.write_vertices.Given as goal
 
-abbrev pub invariant-loop-v : goal.invariant-loop-v
-invariant-loop-v l = StoredTo l.graph.order (vertex_bytes l.edition (lent_graph l.graph)) l.start l.initial.out l.v l.at l.out
+abbrev pub invariant-loop-label : goal.invariant-loop-label
+invariant-loop-label l = StoredTo l.graph.order (vertex_bytes l.edition (lent_graph l.graph)) l.start l.initial.out l.label-index l.at l.out

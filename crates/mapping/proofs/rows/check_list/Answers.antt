@@ -11,8 +11,8 @@ use Rattle.mapping.proofs.rows.check_list.Goals as goal
 pub returns-then-mapping-problem : goal.returns-then-mapping-problem
 returns-then-mapping-problem c = simp (ne_eqb _ _ c.if-mapping-problem.true)
 
-pub first_fault-requires : goal.first_fault-requires
-first_fault-requires c = (c.requires.0, c.requires.2, omega (arith, c.requires.1, c.if-mapping-problem.false))
+pub invariant_of-rows : goal.invariant_of-rows
+invariant_of-rows c = record { edges_long = c.requires.0; new_order_max = c.requires.2; few_rows = omega (arith, c.requires.1, c.if-mapping-problem.false) }
 
 pub returns-in_err-first_fault : goal.returns-in_err-first_fault
 returns-in_err-first_fault c =

@@ -1,6 +1,6 @@
 -- `refit_text::program::put_graphs` meets its contract: what is printed goes by the answer of the reading (`GraphsPrinted`). Assumes nothing.
 use mathlib.Core.Path.{◌∙◌}
-use Rattle.text.proofs.PutTexts.{put_same}
+use Rattle.text.proofs.PutTexts.{writes_same}
 use Rattle.refit_text.proofs.GraphsPrinted.{Read, order_max, print_graphs, print_refusal}
 use Rattle.refit_text.proofs.program.put_graphs.Goals as goal
 use Rattle.refit_text.proofs.program.put_graphs.Goals.{After-read_problem-read}
@@ -20,17 +20,15 @@ both_read m =
 
 pub put_report-requires : goal.put_report-requires
 put_report-requires c =
-    order_max (both_read (goal.at.put_report-requires c).After-read_problem-read) c.type_inv.old_bytes c.type_inv.new_bytes _ _ c.in-Orders.is
+    order_max (both_read (goal.at.put_report-requires c).After-read_problem-read) c.type_inv.old_bytes c.type_inv.new_bytes _ _ c.in-Ok.is
 
-pub returns-in-Refused : goal.returns-in-Refused
-returns-in-Refused c =
+pub returns-in-Ok : goal.returns-in-Ok
+returns-in-Ok c =
     let a = c.args in
-    put_same
-    (print_refusal (both_read (goal.at.returns-in-Refused c).After-read_problem-read) a.minimum a.budget _ c.in-Refused.is c.problem_read_number.result
-    c.problem_read_number.ensures)
-    c.put_refusal.ensures
+    let shown = print_graphs (both_read (goal.at.returns-in-Ok c).After-read_problem-read) a.minimum a.budget _ _ c.in-Ok.is in
+    writes_same (c.search_first-searched.ensures ∙ shown) c.put_report.ensures
 
-pub returns-in-Orders : goal.returns-in-Orders
-returns-in-Orders c =
+pub returns-in-Err : goal.returns-in-Err
+returns-in-Err c =
     let a = c.args in
-    put_same (c.search_first-searched.ensures ∙ print_graphs (both_read (goal.at.returns-in-Orders c).After-read_problem-read) a.minimum a.budget _ _ c.in-Orders.is) c.put_report.ensures
+    writes_same (print_refusal (both_read (goal.at.returns-in-Err c).After-read_problem-read) a.minimum a.budget _ c.in-Err.is) c.put_refusal.ensures

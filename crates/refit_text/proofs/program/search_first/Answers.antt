@@ -1,5 +1,4 @@
 -- `refit_text::program::search_first` meets its contract: one call from a fresh checkpoint. Assumes nothing.
-use mathlib.Core.List.{[]}
 use mathlib.Core.Path.{ap}
 use Rattle.problem.specs.Lent.{lent}
 use Rattle.search.specs.Call.{Called}
@@ -10,6 +9,5 @@ use Rattle.refit_text.proofs.program.search_first.Goals as goal
 pub returns : goal.returns
 unfolding search_text
 returns c =
-    let a = c.args in
-    let P = lent a.orders a.labels a.edges [] in
+    let P = lent c.args.problem in
     ap (λ (x : Called). report_text P.old.order P.new.order x.answer x.checkpoint) c.start.ensures

@@ -1,37 +1,20 @@
-use mathlib.Core.Path.{◌≡◌}
-use mathlib.Core.List.{List, []}
-use Prim.Native.Nat.{ℕ}
-use lib.ListN.{get_or}
 use borrow.Author.Tests.{eq-eqb, ne_eqb}
-use Rattle.mapping.specs.Common.{unmapped}
-use Rattle.text.proofs.PutTexts.{put_kept}
-use Rattle.text.specs.Put.{number_line}
-use Rattle.refit_text.specs.Lines.{remove_word, remove_text, remove_lines}
+use Rattle.refit_text.specs.Lines.{remove_lines}
 use Rattle.refit_text.proofs.PutRuns.{line_there, line_else, lines_none, line_more, line_none, lines_all}
 use Rattle.refit_text.proofs.vertices.put_removed.Goals as goal
-use Rattle.refit_text.proofs.vertices.put_removed.Goals.{then-mapping-v, else-mapping-v}
-
--- a vertex that is not mapped has a line
-unmapped_line : (l : List ℕ) (v : ℕ) → get_or l v 0 ≡ unmapped → remove_text l v ≡ number_line remove_word v
-unmapped_line l v h = line_there _ _ _ (eq-eqb _ _ h)
-
--- any other has none
-mapped_line : (l : List ℕ) (v : ℕ) → (get_or l v 0 ≡ unmapped → ⊥) → remove_text l v ≡ []
-mapped_line l v h = line_else _ _ _ (ne_eqb _ _ h)
+use Rattle.refit_text.proofs.vertices.put_removed.Goals.{then-image, else-image}
 
 pub loop-v-init : goal.loop-v-init
-loop-v-init c = lines_none _ _ _ _
+loop-v-init c = lines_none _ _ _
 
 pub loop-v-preserved : goal.loop-v-preserved
 loop-v-preserved c =
     let sofar = c.loop-v.invariant in
     let h = c.loop-v-test.true in
-    let l = c.args.mapping.now in
-    let v = c.loop-v.v in
-    elim c.if-mapping-v.branch [ then-mapping-v x ↦ line_more sofar h (unmapped_line l v x.if-mapping-v.true) x.put_number_line-at.ensures c.if-mapping-v.at c.if-mapping-v.out x.at-is x.out-is | else-mapping-v x ↦ line_none sofar h (mapped_line l v x.if-mapping-v.false) c.if-mapping-v.at c.if-mapping-v.out x.at-is x.out-is ]
-
-pub shape_of-out : goal.shape_of-out
-shape_of-out c = put_kept c.loop-v.invariant.texts
+    elim c.if-image.branch [
+      | then-image x ↦ rw x.writer-is (line_more sofar h (line_there _ _ _ (eq-eqb _ _ x.if-image.true)) x.put_number_line.ensures)
+      | else-image x ↦ rw x.writer-is (line_none sofar h (line_else _ _ _ (ne_eqb _ _ x.if-image.false)))
+    ]
 
 pub returns : goal.returns
 unfolding remove_lines

@@ -11,5 +11,5 @@ slice_bounds-search-end c = sym (own_length _ _ c.words_used-used.ensures)
 pub returns : goal.returns
 returns c =
     let a = c.args in
-    found_apart a.connected (lent a.orders a.labels a.edges a.substitutes.now) a.checkpoint a.budget c.search.result _ _ c.search.ensures
+    found_apart a.connected (lent a.problem) a.checkpoint a.budget c.search.result _ _ c.search.ensures
     _ (own_test _ _ c.words_used-used.ensures)

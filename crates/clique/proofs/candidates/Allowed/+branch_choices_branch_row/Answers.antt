@@ -23,8 +23,8 @@ place s e = (least_below_member 64 (member s) (sym e)).below
 pub branch_choices-branch_row-requires : goal.branch_choices-branch_row-requires
 branch_choices-branch_row-requires t c =
     let p = c.requires in
-    let next = decided_left_out c.args.path c.args.depth c.args.pairs (omega arith) p.2 (omega (arith, p.0.old_max, p.1)) in
-    (omega (arith, c.decreases), (p.0, omega (arith, p.1), next))
+    let next = decided_left_out c.args.path c.args.depth c.args.pairs (omega arith) p.1 (omega (arith, c.args.self.small.old_max, p.0)) in
+    (omega (arith, c.decreases), (omega (arith, p.0), next))
 
 pub branch_choices-overflow_cast-next : goal.branch_choices-overflow_cast-next
 branch_choices-overflow_cast-next t c = omega (arith, place c.args.candidates c.in-Some.ensures)
@@ -34,17 +34,17 @@ branch_choices-overflow_add-pairs t c =
     let p = c.requires in
     omega (
       arith,
-      p.0.old_max,
-      p.1,
-      decided_pairs c.args.path c.args.depth c.args.pairs (omega arith) p.2 (omega (arith, p.0.old_max, p.1)),
+      c.args.self.small.old_max,
+      p.0,
+      decided_pairs c.args.path c.args.depth c.args.pairs (omega arith) p.1 (omega (arith, c.args.self.small.old_max, p.0)),
     )
 
 pub branch_choices-branch_row-better-requires : goal.branch_choices-branch_row-better-requires
 branch_choices-branch_row-better-requires t c =
     let p = c.requires in
-    let next = decided_mapped c.args.path c.args.depth c.args.pairs (omega arith) p.2 (omega (arith, p.0.old_max, p.1)) c.in-Some.vertex
+    let next = decided_mapped c.args.path c.args.depth c.args.pairs (omega arith) p.1 (omega (arith, c.args.self.small.old_max, p.0)) c.in-Some.vertex
     (place c.args.candidates c.in-Some.ensures) in
-    (omega (arith, c.decreases), (p.0, omega (arith, p.1), next))
+    (omega (arith, c.decreases), (omega (arith, p.0), next))
 
 pub branch_choices-branch_choices-requires : goal.branch_choices-branch_choices-requires
 branch_choices-branch_choices-requires t c = (
@@ -62,14 +62,14 @@ branch_choices-returns-in-None t c minimum incumbent e =
     let R = lent_rules c.args.self.problem c.args.self.sets.now in
     c.branch_row.ensures minimum incumbent e
     ∙ ap (incumbent_as minimum)
-    (no_candidate R minimum c.args.path c.args.depth incumbent (omega (arith, c.requires.0.old_max, c.requires.1)) _ c.args.candidates (sym c.in-None.ensures))
+    (no_candidate R minimum c.args.path c.args.depth incumbent (omega (arith, c.args.self.small.old_max, c.requires.0)) _ c.args.candidates (sym c.in-None.ensures))
 
 pub branch_choices-returns-in-Some : goal.branch_choices-returns-in-Some
 branch_choices-returns-in-Some t c minimum incumbent e =
     let R = lent_rules c.args.self.problem c.args.self.sets.now in
     c.branch_choices.ensures minimum _ (c.branch_row-better.ensures minimum incumbent e)
     ∙ ap (incumbent_as minimum)
-    (least_candidate R minimum c.args.path c.args.depth incumbent (omega (arith, c.requires.0.old_max, c.requires.1)) _ c.args.candidates
+    (least_candidate R minimum c.args.path c.args.depth incumbent (omega (arith, c.args.self.small.old_max, c.requires.0)) _ c.args.candidates
     c.in-Some.vertex (sym c.in-Some.ensures) c.without_least-rest.ensures)
 
 pub branch_row-returns-then-depth-self : goal.branch_row-returns-then-depth-self
@@ -82,7 +82,7 @@ pub branch_row-branch_choices-requires : goal.branch_row-branch_choices-requires
 branch_row-branch_choices-requires t c =
     let p = c.requires in (
       omega (arith, c.decreases, count_below_le 64 (member c.candidates-candidates.result)),
-      (p.0, omega (arith, p.1, c.if-depth-self.false), p.2),
+      (omega (arith, p.0, c.if-depth-self.false), p.1),
     )
 
 pub branch_row-returns : goal.branch_row-returns
@@ -91,7 +91,7 @@ branch_row-returns t c minimum incumbent e =
     let p = c.requires in
     c.branch_choices.ensures minimum incumbent e
     ∙ ap (incumbent_as minimum)
-    (row_open R minimum c.args.path c.args.depth incumbent (omega (arith, p.0.old_max, p.1, c.if-depth-self.false))
-    (omega (arith, p.1, c.if-depth-self.false)) p.0.new_max
-    (c.candidates-candidates.ensures ∙ lent_candidates c.args.self.problem c.args.self.sets.now c.args.path c.args.depth p.0
-    (omega (arith, p.1, c.if-depth-self.false)) (omega (arith, p.0.old_max, p.1))))
+    (row_open R minimum c.args.path c.args.depth incumbent (omega (arith, c.args.self.small.old_max, p.0, c.if-depth-self.false))
+    (omega (arith, p.0, c.if-depth-self.false)) c.args.self.small.new_max
+    (c.candidates-candidates.ensures ∙ lent_candidates c.args.self.problem c.args.self.sets.now c.args.path c.args.depth c.args.self.small
+    (omega (arith, p.0, c.if-depth-self.false)) (omega (arith, c.args.self.small.old_max, p.0))))

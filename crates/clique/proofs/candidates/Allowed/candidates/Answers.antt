@@ -21,7 +21,7 @@ loop-v-init c = gathered_none _ _
 pub edges_fit-requires : goal.edges_fit-requires
 edges_fit-requires c =
     let p = c.requires in
-    (p.0, p.1, (least_below_member 64 (member c.loop-v.rest) (found c)).below, p.2)
+    (p.0, (least_below_member 64 (member c.loop-v.rest) (found c)).below, p.1)
 
 pub loop-v-smaller : goal.loop-v-smaller
 loop-v-smaller c =

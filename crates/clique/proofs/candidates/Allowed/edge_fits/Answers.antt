@@ -9,7 +9,7 @@ returns-then-entry-eq-UNMAPPED c = simp (eq-eqb _ _ c.if-entry-eq-UNMAPPED.true)
 
 pub bounds-new-new_from : goal.bounds-new-new_from
 bounds-new-new_from c =
-    omega (arith, c.requires.4 c.if-entry-eq-UNMAPPED.false)
+    omega (arith, c.requires.3 c.if-entry-eq-UNMAPPED.false)
 
 pub returns : goal.returns
 returns c = simp (ne_eqb _ _ c.if-entry-eq-UNMAPPED.false)

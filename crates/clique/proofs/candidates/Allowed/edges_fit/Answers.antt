@@ -8,7 +8,7 @@ loop-i-init c = passed_none _ _
 
 pub edge_fits-requires : goal.edge_fits-requires
 edge_fits-requires c =
-    search (rules, c.requires.3 c.loop-i.i c.loop-i-test.true)
+    search (rules, c.requires.2 c.loop-i.i c.loop-i-test.true)
 
 pub returns-then-not-edge_fits : goal.returns-then-not-edge_fits
 returns-then-not-edge_fits c =

@@ -13,7 +13,7 @@ returns-then-other-image c = simp (ne_eqb _ _ c.if-other.false, eq-eqb _ _ c.if-
 
 pub compare_edges-requires : goal.compare_edges-requires
 compare_edges-requires c =
-    omega (arith, c.requires.below.1 c.args.u.0 c.requires.long.3 c.if-other.false)
+    omega (arith, c.requires.below.1 c.args.u.0 c.requires.rows.1 c.if-other.false, c.requires.rows, c.args.self.few_rows)
 
 pub returns-then-not-compare_edges : goal.returns-then-not-compare_edges
 returns-then-not-compare_edges c =

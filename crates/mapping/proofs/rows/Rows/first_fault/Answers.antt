@@ -28,17 +28,12 @@ pub loop-v-init : goal.loop-v-init
 loop-v-init c = clear_none _ _
 
 pub row_fault-requires : goal.row_fault-requires
-row_fault-requires c =
-    record {
-      long = (c.requires.0, c.requires.1);
-      below = (
-        c.requires.2,
-        c.loop-v-test.true,
-        λ u h m.
-            let below = clear_entry _ _ _ u (c.loop-v.invariant.1 u h) m in
-            omega (arith, below, c.requires.1),
-      );
-    }
+row_fault-requires c = (
+  c.loop-v-test.true,
+  λ u h m.
+      let below = clear_entry _ _ _ u (c.loop-v.invariant.1 u h) m in
+      omega (arith, below, c.args.self.new_order_max),
+)
 
 pub returns-in_err-row_fault : goal.returns-in_err-row_fault
 returns-in_err-row_fault c =

@@ -28,11 +28,11 @@ returns-then-not-compare_vertices c =
 
 -- the row's image, once it is known to be a new vertex, is a place of the tables
 below : (e : Else-self-w) → get_or e.args.self.mapping.now e.args.v.0 0 < 64
-below e = omega (arith, e.if-self-w.false, e.requires.long.1)
+below e = omega (arith, e.if-self-w.false, e.args.self.new_order_max)
 
 pub compare_edges-requires : goal.compare_edges-requires
 compare_edges-requires c =
-    let row : c.args.v.0 < 64 = omega (arith, c.requires.below.0, c.requires.below.1) in (c.requires.long.0, row, row, below (goal.at.compare_edges-requires c).Else-self-w, below (goal.at.compare_edges-requires c).Else-self-w)
+    let row : c.args.v.0 < 64 = omega (arith, c.args.self.few_rows, c.requires.0) in (c.args.self.edges_long, row, row, below (goal.at.compare_edges-requires c).Else-self-w, below (goal.at.compare_edges-requires c).Else-self-w)
 
 pub returns-then-not-compare_edges : goal.returns-then-not-compare_edges
 unfolding lent_row
@@ -46,7 +46,7 @@ returns-then-not-compare_edges c =
 
 pub first_clash-requires : goal.first_clash-requires
 first_clash-requires c =
-    record { long = (c.requires.long.0, c.requires.below.0, c.requires.below.1); below = (below (goal.at.first_clash-requires c).Else-self-w, c.requires.below.2) }
+    record { row = c.requires.0; below = (below (goal.at.first_clash-requires c).Else-self-w, c.requires.1) }
 
 pub returns : goal.returns
 unfolding lent_row
