@@ -1,8 +1,7 @@
 -- What each answer of this crate says in 01's terms: passed, a refusal's number, or a number with its place (01, "Refusals by place of checking").
 use Rattle.std.specs.Prelude.{Result}
-use Rattle.answers.specs.Answer.{Answer, passed, refused_at, result_answer}
+use Rattle.answers.specs.Answer.{Answer, refused_at, tested}
 use Rattle.checkpoint.specs.Answers.{shape_refusal}
-use Rattle.checkpoint.specs.declared.Checkpoint.{Checkpoint}
 use Rattle.checkpoint_loader.specs.declared.LoadError.{LoadError}
 use Rattle.checkpoint_loader.specs.declared.LoadError.TheVariants.{Shape, Malformed}
 
@@ -10,5 +9,5 @@ abbrev pub load_refusal : LoadError → Answer
 load_refusal (Shape e) = shape_refusal e
 load_refusal (Malformed at) = refused_at 17 at
 
-abbrev pub load_answer : Result Checkpoint LoadError → Answer
-load_answer r = result_answer (λ c. passed) load_refusal r
+abbrev pub load_answer : Result Unit LoadError → Answer
+load_answer r = tested load_refusal r

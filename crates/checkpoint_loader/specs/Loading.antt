@@ -1,14 +1,14 @@
 -- What checkpoint bytes say, and loading them: 01, "Bookmark and calls", last paragraph, and the rows "Bookmark bytes" and "Bookmark" of the refusals;
 -- 02, U1, "Saving and loading a bookmark take the list too", and U7, "else 14, when saved or loaded for this search too".
-use Rattle.std.specs.Prelude.{Bool, cond, List, [], ◌∷◌, ℕ, ◌+◌, ◌-◌, ◌*◌, ◌/◌, length, get_or, take, drop, Option, None, Some, Result, Ok, Err}
+use Rattle.std.specs.Prelude.{Bool, cond, List, [], ◌∷◌, ℕ, ◌+◌, ◌-◌, ◌*◌, ◌/◌, length, get_or, take, drop, Option, None, Some}
 use Rattle.little_endian.specs.LittleEndian.{from_little}
 use Rattle.bounded.specs.Below.{run_below}
 use Rattle.answers.specs.Answer.{Answer, passed, refused, refused_at, when_passed}
 use Rattle.problem.specs.Problem.{Problem, problem_answer}
 use Rattle.checkpoint.specs.declared.Checkpoint.{Checkpoint}
 use Rattle.checkpoint.specs.Checkpoints.{padded, fresh_checkpoint, in_shape}
-use Rattle.checkpoint_loader.specs.declared.LoadError.{LoadError}
-use Rattle.checkpoint_loader.specs.Answers.{load_refusal}
+use Rattle.checkpoint_loader.specs.declared.Loaded.{Loaded}
+use Rattle.checkpoint_loader.specs.Answers.{load_answer}
 use Rattle.checkpoint_loader.specs.Form.{holds_of, finished_of, form_fault}
 
 -- k entries from a place on: the second byte of each pair
@@ -40,14 +40,12 @@ pub record Loading : Type 0 where
   pub answer : Answer
   pub checkpoint : Checkpoint
 
+abbrev pub loading_of : Loaded → Loading
+loading_of r = record { answer = load_answer r.answer; checkpoint = r.checkpoint }
+
 -- "a refused load returns a fresh bookmark of floor 0"
 abbrev pub refuse : Answer → Loading
 refuse answer = record { answer = answer; checkpoint = fresh_checkpoint 0 }
-
--- the code hands out none after a refusal: whoever needs one begins with the fresh one
-abbrev pub loading_of : Result Checkpoint LoadError → Loading
-loading_of (Ok c) = record { answer = passed; checkpoint = c }
-loading_of (Err e) = refuse (load_refusal e)
 
 -- "14 not in shape", for the checkpoint that the bytes say
 abbrev pub on_shape : Bool → Problem → Checkpoint → Loading

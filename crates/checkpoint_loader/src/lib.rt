@@ -9,7 +9,7 @@ ghost use Rattle.std.specs.Prelude.{◌≡◌};
 ghost use Rattle.problem.specs.Lent.{lent};
 ghost use Rattle.checkpoint.specs.declared.ShapeError.TheVariants.{Flawed as OfProblem};
 ghost use Rattle.checkpoint_loader.specs.declared.LoadError.TheVariants.{Shape as OfShape};
-ghost use Rattle.checkpoint_loader.specs.Loading.{loading_of, loading};
+ghost use Rattle.checkpoint_loader.specs.Loading.{loading_of, refuse as refused, loading};
 ghost use Rattle.checkpoint_loader.specs.Answers.{load_refusal};
 
 use answers::Refusal;
@@ -57,20 +57,40 @@ impl From<ShapeError> for LoadError {
     }
 }
 
+// The answer, and the checkpoint that was loaded; the fresh one of minimum 0 after a refusal.
+#[derive(Clone, Copy)]
+pub struct Loaded {
+    pub answer: Result<(), LoadError>,
+    pub checkpoint: Checkpoint,
+}
+
+// A refused load.
+fn refuse(error: LoadError) -> Loaded
+    ensures { loading_of result ≡ refused (load_refusal error) }
+{
+    Loaded {
+        answer: Err(error),
+        checkpoint: Checkpoint::fresh(0),
+    }
+}
+
 // The checkpoint that the bytes say, if they are in the form and it is in shape for the two graphs, the substitutes and the search.
-pub fn load_checkpoint<'a>(
-    problem: Problem<'a>,
-    connected: bool,
-    bytes: &[u8],
-) -> Result<Checkpoint, LoadError>
+pub fn load_checkpoint<'a>(problem: Problem<'a>, connected: bool, bytes: &[u8]) -> Loaded
     ensures { loading_of result ≡ loading connected (lent problem.entry) bytes.now }
 {
-    problem.check()?;
+    if let Err(flaw) = problem.check() {
+        return refuse(flaw.into());
+    }
     let order = problem.old.order;
     if let Some(at) = form::find_fault(order, bytes) {
-        return Err(LoadError::Malformed(at));
+        return refuse(LoadError::Malformed(at));
     }
     let checkpoint = loader::read_formed(order, bytes);
-    checkpoint.check(problem, connected)?;
-    Ok(checkpoint)
+    match checkpoint.check(problem, connected) {
+        Ok(()) => Loaded {
+            answer: Ok(()),
+            checkpoint,
+        },
+        Err(error) => refuse(error.into()),
+    }
 }

@@ -53,8 +53,10 @@ fn load(
     connected: bool,
     bytes: &[u8],
 ) -> io::Result<()> {
-    match checkpoint_loader::load_checkpoint(problem, connected, bytes) {
-        Ok(checkpoint) => {
+    let loaded = checkpoint_loader::load_checkpoint(problem, connected, bytes);
+    let checkpoint = loaded.checkpoint;
+    match loaded.answer {
+        Ok(()) => {
             print!(rt; "{name}: loaded")?;
             print_checkpoint(rt, checkpoint)?;
             let mut buffer = [170u8; 300];
@@ -66,7 +68,7 @@ fn load(
             if let LoadError::Malformed(place) = error {
                 print!(rt; " {place}")?;
             }
-            print_checkpoint(rt, Checkpoint::fresh(0))?;
+            print_checkpoint(rt, checkpoint)?;
         }
     }
     println!(rt;)

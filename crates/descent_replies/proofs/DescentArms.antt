@@ -17,6 +17,7 @@ use Rattle.search.specs.Answers.{search_refusal, search_answer}
 use Rattle.checkpoint_saver.specs.declared.SaveError.{SaveError}
 use Rattle.checkpoint_saver.specs.Answers.{save_refusal, save_answer}
 use Rattle.checkpoint_saver.specs.Saving.{saving_of, saving}
+use Rattle.checkpoint_loader.specs.declared.Loaded.{Loaded}
 use Rattle.checkpoint_loader.specs.declared.LoadError.{LoadError}
 use Rattle.checkpoint_loader.specs.Answers.{load_refusal}
 use Rattle.checkpoint_loader.specs.Loading.{Loading, loading_of, loading}
@@ -93,23 +94,27 @@ module _ (connected : Bool) (P : Problem) (floor : ℕ) (c : Checkpoint) (budget
         ∙ ap (λ (q : Descended). save_descent connected P q workspace next) called
 
 module _ (connected : Bool) (P : Problem) (floor : ℕ) (bytes : List ℕ) (budget : ℕ) (workspace next : List ℕ)
-    (r : Result Checkpoint LoadError) (loads : loading_of r ≡ loading connected P bytes)
+    (r : Loaded) (loads : loading_of r ≡ loading connected P bytes)
   where
+    -- the load, with this answer
+    abbrev by : Result Unit LoadError → Loading
+    by a = loading_of (record { answer = a; checkpoint = r.checkpoint })
+
     -- A checkpoint that is loaded is descended from.
-    pub load_descended : (c : Checkpoint) → r ≡ Ok c → (x : DescentReply) → x ≡ descend_and_save connected P floor c budget workspace next
+    pub load_descended : r.answer ≡ Ok tt → (x : DescentReply) → x ≡ descend_and_save connected P floor r.checkpoint budget workspace next
         → x ≡ descend_bytes connected P floor bytes budget workspace next
     unfolding descend_bytes
-    load_descended c arm x descended =
+    load_descended arm x descended =
         descended
-        ∙ ap (λ (a : Result Checkpoint LoadError). descend_loaded connected P floor (loading_of a) budget workspace next) (sym arm)
+        ∙ ap (λ (a : Result Unit LoadError). descend_loaded connected P floor (by a) budget workspace next) (sym arm)
         ∙ ap (λ (l : Loading). descend_loaded connected P floor l budget workspace next) loads
 
     -- A refused load is handed on, and no call is made.
-    pub load_not_descended : (e : LoadError) → r ≡ Err e → (t : Reply) → t ≡ reply_of (load_refusal e)
+    pub load_not_descended : (e : LoadError) → r.answer ≡ Err e → (t : Reply) → t ≡ reply_of (load_refusal e)
         → descent_reply t 0 0 workspace next ≡ descend_bytes connected P floor bytes budget workspace next
     unfolding descend_bytes
     load_not_descended e off t replied =
         ap (λ (u : Reply). descent_reply u 0 0 workspace next) replied
         ∙ off_passed _ (not_descended workspace next) (load_refusal e) (load_refused e)
-        ∙ ap (λ (a : Result Checkpoint LoadError). descend_loaded connected P floor (loading_of a) budget workspace next) (sym off)
+        ∙ ap (λ (a : Result Unit LoadError). descend_loaded connected P floor (by a) budget workspace next) (sym off)
         ∙ ap (λ (l : Loading). descend_loaded connected P floor l budget workspace next) loads

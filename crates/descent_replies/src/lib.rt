@@ -117,9 +117,16 @@ pub fn descend<'a>(
     ensures { descent_reply result.reply result.ceiling result.visits workspace.new next.new
         ≡ descend_bytes connected (lent problem.entry) floor bytes.now budget workspace.old next.old }
 {
-    match checkpoint_loader::load_checkpoint(problem, connected, bytes) {
-        Ok(checkpoint) => descend_and_save(
-            problem, connected, floor, checkpoint, budget, workspace, next,
+    let loaded = checkpoint_loader::load_checkpoint(problem, connected, bytes);
+    match loaded.answer {
+        Ok(()) => descend_and_save(
+            problem,
+            connected,
+            floor,
+            loaded.checkpoint,
+            budget,
+            workspace,
+            next,
         ),
         Err(error) => DescentNumbers {
             reply: Reply::refused(error),

@@ -59,7 +59,7 @@ impl Refusal for MoveError {
 
     fn number(self) -> u8 {
         match self {
-            MoveError::Unreadable(fault, at) => ReadError::At(fault, at).number(),
+            MoveError::Unreadable(fault, at) => ReadError::Faulty(fault, at).number(),
             MoveError::TooShort => 13,
         }
     }

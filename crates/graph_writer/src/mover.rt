@@ -26,7 +26,7 @@ pub fn move_file(
             };
             writer::write_sound(to, graph, out).ok_or(MoveError::TooShort)
         }
-        Err(ReadError::At(fault, at)) => Err(MoveError::Unreadable(fault, at)),
+        Err(ReadError::Faulty(fault, at)) => Err(MoveError::Unreadable(fault, at)),
         // Both tables have their lengths.
         Err(ReadError::Tables) => unreachable!(),
     }

@@ -22,9 +22,10 @@ use Rattle.search.proofs.SearchErrors.{error_refused}
 use Rattle.search.specs.Call.{Called, words_needed, cleared, search_call}
 use Rattle.search.specs.Answers.{search_refusal, search_answer, called_of}
 use Rattle.checkpoint_saver.specs.declared.SaveError.{SaveError}
+use Rattle.checkpoint_loader.specs.declared.Loaded.{Loaded}
 use Rattle.checkpoint_loader.specs.declared.LoadError.{LoadError}
 use Rattle.checkpoint_saver.specs.Answers.{save_refusal, save_answer}
-use Rattle.checkpoint_loader.specs.Answers.{load_refusal}
+use Rattle.checkpoint_loader.specs.Answers.{load_answer, load_refusal}
 use Rattle.checkpoint_saver.specs.Saving.{state_byte, saving_of, saving}
 use Rattle.checkpoint_loader.specs.Loading.{Loading, loading_of, loading}
 use Rattle.checkpoint_saver.proofs.SavedLength.{incumbent_few}
@@ -112,40 +113,42 @@ module _ (connected : Bool) (P : Problem) (c : Checkpoint) (budget : ℕ) (works
         ∙ ap (λ (a : Result ℕ SearchError). save_on connected P (with_answer a) workspace next) (sym arm)
         ∙ ap (λ (q : Called). save_on connected P q workspace next) called
 
-module _ (connected : Bool) (P : Problem) (bytes : List ℕ) (r : Result Checkpoint LoadError) (loads : loading_of r ≡ loading connected P bytes) where
-  module _ (c : Checkpoint) (arm : r ≡ Ok c) where
+module _ (connected : Bool) (P : Problem) (bytes : List ℕ) (r : Loaded) (loads : loading_of r ≡ loading connected P bytes) where
+  -- the load, with this answer
+  abbrev by : Result Unit LoadError → Loading
+  by a = loading_of (record { answer = a; checkpoint = r.checkpoint })
+
+  module _ (arm : r.answer ≡ Ok tt) where
     -- A checkpoint that is loaded is searched on.
     pub load_searched : (budget : ℕ) (workspace next : List ℕ) (q : ResumeReply) (words after : List ℕ)
-        → resumed q.reply q.ceiling words after ≡ search_from connected P c budget workspace next
+        → resumed q.reply q.ceiling words after ≡ search_from connected P r.checkpoint budget workspace next
         → resumed q.reply q.ceiling words after ≡ resume_from connected P bytes budget workspace next
     unfolding resume_from
     load_searched budget workspace next q words after searched =
         searched
-        ∙ ap (λ (a : Result Checkpoint LoadError). load_on connected P (loading_of a) budget workspace next) (sym arm)
+        ∙ ap (λ (a : Result Unit LoadError). load_on connected P (by a) budget workspace next) (sym arm)
         ∙ ap (λ (l : Loading). load_on connected P l budget workspace next) loads
 
     -- It is read out.
-    pub load_read : (mapping : List ℕ) (x : ReadOut) → x ≡ read_checkpoint connected P c mapping → x ≡ read_bytes connected P bytes mapping
+    pub load_read : (mapping : List ℕ) (x : ReadOut) → x ≡ read_checkpoint connected P r.checkpoint mapping → x ≡ read_bytes connected P bytes mapping
     unfolding read_bytes
     load_read mapping x out =
         out
-        ∙ ap (λ (a : Result Checkpoint LoadError). read_loaded connected P (loading_of a) mapping) (sym arm)
+        ∙ ap (λ (a : Result Unit LoadError). read_loaded connected P (by a) mapping) (sym arm)
         ∙ ap (λ (l : Loading). read_loaded connected P l mapping) loads
 
     -- It is for an old graph of at most 64 vertices.
     pub load_order : P.old.order ≤ 64
-    load_order =
-        let told : (loading connected P bytes).answer ≡ passed = ap (λ (l : Loading). l.answer) (sym loads) ∙ ap (λ (a : Result Checkpoint LoadError). (loading_of a).answer) arm in
-        (load_in_shape connected P bytes told).0.old_sound.order_max
+    load_order = (load_in_shape connected P bytes (ap (λ (l : Loading). l.answer) (sym loads) ∙ ap load_answer arm)).0.old_sound.order_max
 
-  module _ (e : LoadError) (arm : r ≡ Err e) (t : Reply) (replied : t ≡ reply_of (load_refusal e)) where
+  module _ (e : LoadError) (arm : r.answer ≡ Err e) (t : Reply) (replied : t ≡ reply_of (load_refusal e)) where
     -- A refused load is handed on, and nothing is searched.
     pub load_not_searched : (budget : ℕ) (workspace next : List ℕ) → resumed t 0 workspace next ≡ resume_from connected P bytes budget workspace next
     unfolding resume_from
     load_not_searched budget workspace next =
         ap (λ (u : Reply). resumed u 0 workspace next) replied
         ∙ off_passed _ (not_resumed workspace next) (load_refusal e) (load_refused e)
-        ∙ ap (λ (a : Result Checkpoint LoadError). load_on connected P (loading_of a) budget workspace next) (sym arm)
+        ∙ ap (λ (a : Result Unit LoadError). load_on connected P (by a) budget workspace next) (sym arm)
         ∙ ap (λ (l : Loading). load_on connected P l budget workspace next) loads
 
     -- Nor is anything read out.
@@ -154,7 +157,7 @@ module _ (connected : Bool) (P : Problem) (bytes : List ℕ) (r : Result Checkpo
     load_not_read mapping =
         ap (not_read_out mapping) replied
         ∙ off_passed _ (λ (refusal : Answer). not_read_out mapping (reply_of refusal)) (load_refusal e) (load_refused e)
-        ∙ ap (λ (a : Result Checkpoint LoadError). read_loaded connected P (loading_of a) mapping) (sym arm)
+        ∙ ap (λ (a : Result Unit LoadError). read_loaded connected P (by a) mapping) (sym arm)
         ∙ ap (λ (l : Loading). read_loaded connected P l mapping) loads
 
 -- as many entries as are held

@@ -183,10 +183,16 @@ pub fn resume<'a>(
     ensures { resumed result.reply result.ceiling workspace.new next.new
         ≡ resume_from connected (lent problem.entry) bytes.now budget workspace.old next.old }
 {
-    match checkpoint_loader::load_checkpoint(problem, connected, bytes) {
-        Ok(checkpoint) => {
-            search_and_save(problem, connected, checkpoint, budget, workspace, next)
-        }
+    let loaded = checkpoint_loader::load_checkpoint(problem, connected, bytes);
+    match loaded.answer {
+        Ok(()) => search_and_save(
+            problem,
+            connected,
+            loaded.checkpoint,
+            budget,
+            workspace,
+            next,
+        ),
         Err(error) => ResumeReply {
             reply: Reply::refused(error),
             ceiling: 0,
@@ -240,8 +246,9 @@ pub fn read_out<'a>(
     ensures { read_out result.reply result.steps result.size result.ceiling mapping.new
         ≡ read_bytes connected (lent problem.entry) bytes.now mapping.old }
 {
-    match checkpoint_loader::load_checkpoint(problem, connected, bytes) {
-        Ok(checkpoint) => read_checkpoint(problem, connected, checkpoint, mapping),
+    let loaded = checkpoint_loader::load_checkpoint(problem, connected, bytes);
+    match loaded.answer {
+        Ok(()) => read_checkpoint(problem, connected, loaded.checkpoint, mapping),
         Err(error) => ReadReply {
             reply: Reply::refused(error),
             steps: 0,

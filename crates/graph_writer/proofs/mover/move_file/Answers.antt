@@ -39,6 +39,6 @@ returns-in-Ok c =
     (roomless _ _ ∙ c.write_sound.ensures
     ∙ sym (moved_accepted _ _ _ _ _ _ _ (left_by (goal.at.returns-in-Ok c).After-read_edition _ c.in-Ok.is)))
 
-pub returns-in-Err-At : goal.returns-in-Err-At
-returns-in-Err-At c =
-    rw c.in-Err-At.field-0-is (moved_refused _ _ _ _ _ _ _ _ (left_by (goal.at.returns-in-Err-At c).After-read_edition _ (c.in-Err-At.is ∙ ap Err c.in-Err-At.field-0-is)))
+pub returns-in-Err-Faulty : goal.returns-in-Err-Faulty
+returns-in-Err-Faulty c =
+    rw c.in-Err-Faulty.field-0-is (moved_refused _ _ _ _ _ _ _ _ (left_by (goal.at.returns-in-Err-Faulty c).After-read_edition _ (c.in-Err-Faulty.is ∙ ap Err c.in-Err-Faulty.field-0-is)))
