@@ -57,7 +57,7 @@ impl From<ShapeError> for LoadError {
     }
 }
 
-// The answer, and the checkpoint that was loaded; the fresh one of minimum 0 after a refusal.
+// The answer, and the checkpoint that was loaded; the fresh one of minimum 0 after a refusal, so that it stands beside the answer.
 #[derive(Clone, Copy)]
 pub struct Loaded {
     pub answer: Result<(), LoadError>,

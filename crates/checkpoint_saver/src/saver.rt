@@ -22,7 +22,7 @@ pub fn put_header(checkpoint: &Checkpoint, out: &mut [u8])
     out[12] = super::state_byte(checkpoint.finished, checkpoint.holds);
 }
 
-// The entries, each after its mark, from the place `start` on.
+// The entries, each after its mark, from the place `start` on: a `Writer` writes as far as there is room, and a checkpoint is written whole or not at all.
 pub fn put_entries(mark: u8, entries: &[u8], out: &mut [u8], start: usize)
     requires { start + 2 * length entries.now ≤ length out.old }
     ensures { out.new ≡ sets out.old start (entry_bytes mark entries.now (length entries.now)) }

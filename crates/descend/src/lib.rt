@@ -92,6 +92,7 @@ pub fn descend<'a>(
     let mut at = checkpoint;
     let mut left = budget;
     let mut visits: u64 = 0;
+    // a turn makes the next checkpoint, so there is nothing to go through by `for`
     loop {
         let searched = search::search(problem, connected, at, left, workspace);
         let reached = searched.checkpoint;

@@ -57,6 +57,7 @@ pub fn read_commands(
 {
     let mut order = 0;
     let mut reader = Reader::new(bytes, from.opening_width(), from);
+    // a turn makes the next reader, so there is nothing to go through by `for`
     loop {
         let command = reader.next();
         match commands::apply(to, command, order, labels, edges) {

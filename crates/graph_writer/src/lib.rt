@@ -80,7 +80,7 @@ pub fn write_graph(graph: Graph<'_>, out: &mut [u8]) -> Result<usize, WriteError
     writer::write_sound(Edition::Two, graph, out).ok_or(WriteError::TooShort)
 }
 
-// Moves a file of edition 1 to edition 2.
+// Moves a file of edition 1 to edition 2. 02 asks for this and for the way back; what both do is `move_file`.
 pub fn to_edition_2(bytes: &[u8], out: &mut [u8]) -> Result<usize, MoveError>
     ensures { moving_of result out.new ≡ moving Edition.One Edition.Two bytes.now out.old }
 {

@@ -34,6 +34,7 @@ pub fn count_edges(graph: Graph<'_>) -> usize
     (0..graph.order).map(|a| count_row(graph, a)).sum()
 }
 
+// The place of each command is passed along: a `Writer` writes as far as there is room, and a graph is written whole or not at all.
 // The command of one edge.
 pub fn put_edge(out: &mut [u8], at: usize, a: u8, b: u8, label: u8)
     requires { at + 4 ≤ length out.old }

@@ -11,7 +11,7 @@ ghost use Rattle.inputs.specs.Judging.{judging};
 use graph::{EDGE_BYTES, Label, MAX_ORDER};
 use replies::Reply;
 
-// What a reply is about: nothing is at fault, or the first input that is. These are the numbers that C gets.
+// What a reply is about: nothing is at fault, or the first input that is. Numbers and no enum, since C gets them.
 const NONE: u64 = 0;
 
 const OLD_GRAPH: u64 = 1;

@@ -9,9 +9,9 @@ use Rattle.reasons.specs.Reasons.{bytes_of, reasons, reason_text}
 use Rattle.reasons.specs.Rows.{RowsTell}
 
 -- The row of a number has its text, and a number without a row the empty one.
-pub row_text : (rows : List (Bor (List ℕ))) → RowsTell rows → (k : ℕ) (none : Bor (List ℕ)) → none.now ≡ [] → (get_or rows k none).now ≡ reason_text k
+pub row_text_lem : (rows : List (Bor (List ℕ))) → RowsTell rows → (k : ℕ) (none : Bor (List ℕ)) → none.now ≡ [] → (get_or rows k none).now ≡ reason_text k
 unfolding bytes_of reason_text
-row_text rows tell k none empty =
+row_text_lem rows tell k none empty =
     sym (get_or-map (λ (row : Bor (List ℕ)). row.now) rows k none)
     ∙ ap (get_or (map (λ (row : Bor (List ℕ)). row.now) rows) k) empty
     ∙ ap (λ (l : List (List ℕ)). get_or l k []) tell
@@ -27,4 +27,4 @@ pub text_found : (rows : List (Bor (List ℕ))) → RowsTell rows → (k : ℕ) 
     → ((d : Bor (List ℕ)) → unwrap_or found d ≡ get_or rows k d) → row ≡ found → text ≡ unwrap_or row none → none.now ≡ []
     → text.now ≡ reason_text k
 text_found rows tell k {row} {found} none {text} at e is empty =
-    ap (λ (t : Bor (List ℕ)). t.now) (is ∙ ap (λ (o : Option (Bor (List ℕ))). unwrap_or o none) e ∙ at none) ∙ row_text rows tell k none empty
+    ap (λ (t : Bor (List ℕ)). t.now) (is ∙ ap (λ (o : Option (Bor (List ℕ))). unwrap_or o none) e ∙ at none) ∙ row_text_lem rows tell k none empty

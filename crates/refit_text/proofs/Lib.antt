@@ -1,4 +1,5 @@
 pub mod PutRuns
+pub mod ReportCases
 pub mod FreeVertices
 pub mod GraphsPrinted
 pub mod TextLengths

@@ -23,6 +23,7 @@ fn put_state(finished: bool, writer: &mut Writer<'_>)
     }
 }
 
+// The flag stands beside the mapping as in a checkpoint: `size_line` is over both.
 fn put_size(holds: bool, mapping: &[u8], writer: &mut Writer<'_>)
     ensures { Writes (size_line holds mapping.now) writer.old writer.new }
 {

@@ -4,7 +4,7 @@ ghost use Rattle.std.specs.Prelude.{◌≡◌, cond, ◌≤◌, length, take};
 ghost use Rattle.answers.specs.Output.{overwrite};
 ghost use Rattle.mapping.specs.Common.{size};
 
-// How many entries are held: the old order, or none.
+// How many entries are held: the old order, or none. The flag is a checkpoint's own, which stands beside the entries.
 pub fn entries_held(holds: bool, order: usize) -> usize
     ensures { result ≡ cond holds order 0 }
 {

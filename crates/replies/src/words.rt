@@ -10,6 +10,7 @@ use problem::Problem;
 use search::{Searched, WORDS};
 
 // The search call as over any lent workspace of so many words: too few of them are refused.
+// `descent_replies` has the same of a descent call; one function over the call would have to state both contracts again, and is longer than the two.
 pub fn search_apart<'a>(
     problem: Problem<'a>,
     connected: bool,

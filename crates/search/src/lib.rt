@@ -47,7 +47,8 @@ impl Refusal for SearchError {
     }
 }
 
-// The answer, the ceiling or a refusal, and the checkpoint after the call, which a refusal leaves as it was.
+// The answer, the ceiling or a refusal, and the checkpoint after the call, which a refusal leaves as it was: it stands beside the answer, since 01 gives it
+// after a refusal too.
 #[derive(Clone, Copy)]
 pub struct Searched {
     pub answer: Result<usize, SearchError>,
