@@ -109,7 +109,7 @@ module _ {t : Tables} {budget : ℕ} {ws : List ℕ} {w : Walk} where
         }
 
     -- A finished walk has made all visits of the budget.
-    ran_finished : w'.checkpoint.finished ≡ true → (P : Problem) → Lends P t → Ready t.connected P w ws
+    pub ran_finished : w'.checkpoint.finished ≡ true → (P : Problem) → Lends P t → Ready t.connected P w ws
         → Arrives t.connected P w.checkpoint.minimum (visits (search_of t.connected P) w.checkpoint.minimum budget (state_of P.old.order w.checkpoint)) w' ws'
     unfolding checkpoint_of
     ran_finished end P setting ready =
@@ -126,26 +126,17 @@ module _ {t : Tables} {budget : ℕ} {ws : List ℕ} {w : Walk} where
         let all : w'.checkpoint.steps - w.checkpoint.steps ≡ budget = omega (arith, ran.within) in
         rw all at (ran.arrives P setting ready)
 
--- where the loop ends: at the steps that the budget allows, or where the walk is finished, at once
-pub record EndsAt (budget : ℕ) (w w' : Walk) (last : ℕ) : Type 0 where
-  pub busy : w'.checkpoint.finished ≡ false → (last ≡ w.checkpoint.steps + budget) × (last < 2 ^ 64)
-  pub done : w'.checkpoint.finished ≡ true → last ≤ w'.checkpoint.steps
-
--- Before the end the walk is not finished.
-pub goes_on : {budget : ℕ} {w w' : Walk} {last : ℕ} → EndsAt budget w w' last → w'.checkpoint.steps < last → w'.checkpoint.finished ≡ false
-goes_on {w' = w'} {last} ends h = go w'.checkpoint.finished refl
-  where
-    go : (b : Bool) → w'.checkpoint.finished ≡ b → b ≡ false
-    go true e = absurd (omega (arith, ends.done e))
-    go false e = refl
+-- a walk that is not finished has made so many visits, and its steps and the budget count
+abbrev pub Counts : ℕ → Walk → Walk → ℕ → Type 0
+Counts budget w w' made = w'.checkpoint.finished ≡ false → (w'.checkpoint.steps ≡ w.checkpoint.steps + made) × (w.checkpoint.steps + budget < 2 ^ 64)
 
 -- At the end, finished or not, all visits are made.
-pub ran_out : {t : Tables} {budget : ℕ} {ws ws' : List ℕ} {w w' : Walk} {last : ℕ} → RanTo t budget ws w ws' w'
-    → EndsAt budget w w' last → last ≤ w'.checkpoint.steps → (P : Problem) → Lends P t → Ready t.connected P w ws
+pub ran_out : {t : Tables} {budget made : ℕ} {ws ws' : List ℕ} {w w' : Walk} → RanTo t budget ws w ws' w'
+    → Counts budget w w' made → budget ≤ made → (P : Problem) → Lends P t → Ready t.connected P w ws
     → Arrives t.connected P w.checkpoint.minimum (visits (search_of t.connected P) w.checkpoint.minimum budget (state_of P.old.order w.checkpoint)) w' ws'
-ran_out {t} {budget} {ws} {ws'} {w} {w'} ran ends h P setting ready = go w'.checkpoint.finished refl
+ran_out {t} {budget} {made} {ws} {ws'} {w} {w'} ran counts all P setting ready = go w'.checkpoint.finished refl
   where
     go : (b : Bool) → w'.checkpoint.finished ≡ b
         → Arrives t.connected P w.checkpoint.minimum (visits (search_of t.connected P) w.checkpoint.minimum budget (state_of P.old.order w.checkpoint)) w' ws'
     go true e = ran_finished ran e P setting ready
-    go false e = ran_all ran (omega (arith, (ends.busy e).0)) P setting ready
+    go false e = ran_all ran (omega (arith, (counts e).0)) P setting ready

@@ -84,12 +84,12 @@ pub fn entry(number: u8, depth: u8, before: u8, last: u8) -> u8
     ensures { (number < depth → result ≡ before) × (number ≡ depth → result ≡ last) × (depth < number → result ≡ 0) }
 {
     if number < depth {
-        return before;
+        before
+    } else if number == depth {
+        last
+    } else {
+        0
     }
-    if number == depth {
-        return last;
-    }
-    0
 }
 
 // The path becomes that of `depth` entries which ends in `last` and is the same before it. Entry by entry, so that it can be held in registers and
@@ -109,11 +109,8 @@ pub fn move_down(numbers: &[u8; MAX_ORDER], path: &mut [u8; MAX_ORDER], depth: u
     ensures { Moved path.old depth last path.new }
 {
     for i in 0..MAX_ORDER {
-        let mut entry = path[i];
-        if numbers[i] == depth {
-            entry = last;
-        }
-        path[i] = entry;
+        // stored in either case: with the store in the `if` the compiler goes byte by byte
+        path[i] = if numbers[i] == depth { last } else { path[i] };
     }
 }
 
@@ -236,10 +233,11 @@ pub fn retreat(
 pub fn neighbours_for(connected: bool, edges: &[u8]) -> [u64; MAX_ORDER]
     ensures { connected ≡ true → Neighbours edges.now result }
 {
-    if !connected {
-        return [0u64; MAX_ORDER];
+    if connected {
+        connected::neighbours(edges)
+    } else {
+        [0u64; MAX_ORDER]
     }
-    connected::neighbours(edges)
 }
 
 // The rows of all `pairs` pairs on the trail, as a set.
@@ -284,19 +282,17 @@ impl Walk {
         let mut incumbent = self.checkpoint.incumbent;
         let mut cutoff = self.cutoff;
         let mut path = self.checkpoint.path;
-        // as the value of the `if` the place would go through memory, for 16 instructions a visit
-        let place;
-        if self.bound < cutoff {
-            place = retreat(tables.numbers, &mut path, trail, workspace, pairs);
+        let place = if self.bound < cutoff {
+            retreat(tables.numbers, &mut path, trail, workspace, pairs)
         } else if depth == tables.order {
             if admitted(tables, trail, pairs) {
                 holds = true;
                 incumbent = path;
                 cutoff = pairs + 1;
             }
-            place = retreat(tables.numbers, &mut path, trail, workspace, pairs);
+            retreat(tables.numbers, &mut path, trail, workspace, pairs)
         } else {
-            place = descend(
+            descend(
                 tables.numbers,
                 &mut path,
                 trail,
@@ -304,8 +300,8 @@ impl Walk {
                 depth,
                 pairs,
                 self.bound - pairs,
-            );
-        }
+            )
+        };
         let bound = upper_bound(tables, workspace, place, cutoff);
         Walk {
             checkpoint: Checkpoint {
@@ -359,8 +355,7 @@ pub fn start(
     }
 }
 
-// As many visits as the budget says, fewer only if the search finishes. One way out: with more of them the compiler would keep the two arrays in
-// memory.
+// As many visits as the budget says, fewer only if the search finishes.
 pub fn run(
     walk: Walk,
     tables: Tables<'_>,
@@ -375,16 +370,11 @@ pub fn run(
         (visits (search_of tables.entry.connected P) walk.checkpoint.minimum budget (state_of P.old.order walk.checkpoint)) result workspace.new }
 {
     let mut at = walk;
-    let mut last = if walk.checkpoint.finished {
-        walk.checkpoint.steps
-    } else {
-        walk.checkpoint.steps + budget
-    };
-    while at.checkpoint.steps < last {
-        at = at.visit(tables, trail, workspace);
+    for _made in 0..budget {
         if at.checkpoint.finished {
-            last = at.checkpoint.steps;
+            break;
         }
+        at = at.visit(tables, trail, workspace);
     }
     at
 }

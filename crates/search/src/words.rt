@@ -73,9 +73,10 @@ pub fn level_word(workspace: &[u64], pairs: usize, row: OldVertex) -> u64
     ensures { result ≡ level_word workspace.now pairs row.0 }
 {
     if bitset::has(workspace[OPEN_SETS + pairs], row.0) {
-        return workspace[MAX_ORDER * pairs + row.0];
+        workspace[MAX_ORDER * pairs + row.0]
+    } else {
+        0
     }
-    0
 }
 
 // Whether more than one in six of the edge bytes of the old vertices is not null.

@@ -11,10 +11,10 @@ loop-i-preserved c =
     moved_more (omega arith) l.invariant
     (λ same.
     elim c.if-numbers-i.branch [
-      | then-numbers-i w ↦ record { front = λ h. absurd (omega (arith, w.if-numbers-i.true)); own = λ h. w.entry-is; rest = λ h. absurd (omega (arith, w.if-numbers-i.true)) }
+      | then-numbers-i w ↦ record { front = λ h. absurd (omega (arith, w.if-numbers-i.true)); own = λ h. w.path-is; rest = λ h. absurd (omega (arith, w.if-numbers-i.true)) }
       | else-numbers-i w ↦ record {
-        front = λ h. w.entry-is ∙ same;
+        front = λ h. w.path-is ∙ same;
         own = λ h. absurd (w.if-numbers-i.false (number ∙ h));
-        rest = λ h. w.entry-is ∙ same ∙ c.requires.2 l.i (omega arith) (omega arith);
+        rest = λ h. w.path-is ∙ same ∙ c.requires.2 l.i (omega arith) (omega arith);
       }
     ])

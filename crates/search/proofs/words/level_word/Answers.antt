@@ -9,7 +9,7 @@ returns-then-has c =
     let a = c.args in
     sym (word_open a.workspace.now a.pairs a.row.0 (sym c.has.ensures ∙ c.if-has.true))
 
-pub returns : goal.returns
-returns c =
+pub returns-else-has : goal.returns-else-has
+returns-else-has c =
     let a = c.args in
     sym (word_closed a.workspace.now a.pairs a.row.0 (sym c.has.ensures ∙ c.if-has.false))

@@ -24,8 +24,8 @@ admitted-requires c = (c.requires.goes_on.2.places, omega (arith, pairs_small (r
 pub overflow_add-cutoff : goal.overflow_add-cutoff
 overflow_add-cutoff c = omega (arith, pairs_small (resumes_in_bounds c.requires.resumes))
 
-pub retreat-place-requires-then-depth-tables : goal.retreat-place-requires-then-depth-tables
-retreat-place-requires-then-depth-tables c =
+pub retreat-requires : goal.retreat-requires
+retreat-requires c =
     let b = resumes_in_bounds c.requires.resumes in
     (c.args.tables.numbers_are, b.path_length, c.requires.goes_on.2.places, b.room, pairs_small b)
 
@@ -37,15 +37,15 @@ bound_is c = open_bound c.requires.resumes c.if-self-cutoff.false c.if-depth-tab
 pub overflow_sub-self : goal.overflow_sub-self
 overflow_sub-self c = omega (arith, bound_is (goal.at.overflow_sub-self c).Else-depth-tables)
 
-pub descend-place-requires : goal.descend-place-requires
-descend-place-requires c =
+pub descend-requires : goal.descend-requires
+descend-requires c =
     let b = resumes_in_bounds c.requires.resumes in
     let pre = c.requires in record {
       numbers = (c.args.tables.numbers_are, b.path_length, pre.goes_on.2.places, b.room);
       depth_bound = (
         inner pre.resumes c.if-self-cutoff.false c.if-depth-tables.false,
         pairs_max b,
-        omega (arith, bound_is (goal.at.descend-place-requires c).Else-depth-tables),
+        omega (arith, bound_is (goal.at.descend-requires c).Else-depth-tables),
         pre.resumes.ready.shape.path_rest,
       );
     }
@@ -65,12 +65,12 @@ moves c =
           rw (w.holds-is, w.incumbent-is, w.cutoff-is, w.path-is, w.place-is)
           (elim w.if-admitted.branch [
             | then-admitted may ↦ rw (may.holds-is, may.incumbent-is, may.cutoff-is)
-                (held w.if-self-cutoff.false w.if-depth-tables.true (test ∙ may.if-admitted.true) (λ P sound node. w.retreat-place-then-depth-tables.ensures.sibling P _ sound node trail))
+                (held w.if-self-cutoff.false w.if-depth-tables.true (test ∙ may.if-admitted.true) (λ P sound node. w.retreat.ensures.sibling P _ sound node trail))
             | else-admitted may ↦ rw (may.holds-is, may.incumbent-is, may.cutoff-is)
-                (left (inr (w.if-self-cutoff.false, w.if-depth-tables.true, test ∙ may.if-admitted.false)) (λ P sound node. w.retreat-place-then-depth-tables.ensures.sibling P _ sound node trail))
+                (left (inr (w.if-self-cutoff.false, w.if-depth-tables.true, test ∙ may.if-admitted.false)) (λ P sound node. w.retreat.ensures.sibling P _ sound node trail))
           ])
       | else-self-cutoff+else-depth-tables w ↦ rw (w.holds-is, w.incumbent-is, w.cutoff-is, w.path-is, w.place-is)
-          (down w.if-self-cutoff.false w.if-depth-tables.false w.descend-place.ensures.child)
+          (down w.if-self-cutoff.false w.if-depth-tables.false w.descend.ensures.child)
     ]
 
 -- and what is known of where it went
@@ -83,10 +83,10 @@ led c =
           let next = w.retreat-place.ensures.trail _ b.depth_max b.pairs_are trail in
           rw (w.trail-is, w.path-is, w.place-is) (record { trail = next.0; open_is = next.1; last_is = w.retreat-place.ensures.last })
       | else-self-cutoff+then-depth-tables w ↦
-          let next = w.retreat-place-then-depth-tables.ensures.trail _ b.depth_max b.pairs_are trail in
-          rw (w.trail-is, w.path-is, w.place-is) (record { trail = next.0; open_is = next.1; last_is = w.retreat-place-then-depth-tables.ensures.last })
+          let next = w.retreat.ensures.trail _ b.depth_max b.pairs_are trail in
+          rw (w.trail-is, w.path-is, w.place-is) (record { trail = next.0; open_is = next.1; last_is = w.retreat.ensures.last })
       | else-self-cutoff+else-depth-tables w ↦
-          let made = w.descend-place.ensures in
+          let made = w.descend.ensures in
           rw (w.trail-is, w.path-is, w.place-is) (record {
             trail = made.trail b.pairs_are trail;
             open_is = made.later _ (own_exact c.requires.resumes w.if-self-cutoff.false w.if-depth-tables.false);

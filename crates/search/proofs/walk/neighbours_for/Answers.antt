@@ -1,1 +1,0 @@
--- `search::walk::neighbours_for` meets its contract. Assumes nothing.
