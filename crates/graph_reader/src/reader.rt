@@ -10,7 +10,7 @@ use super::cursor::Reader;
 use super::{Edition, Fault, ReadError, commands};
 use graph::Label;
 
-// A refusal: both tables are cleared.
+// A refusal: both tables are cleared. They are two parameters here and in `commands`: a struct of two `&mut` would be taken apart and lent again at each call.
 pub fn refuse(
     fault: Fault,
     at: usize,

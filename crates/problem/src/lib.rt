@@ -54,7 +54,7 @@ impl From<SubstitutesFlaw> for ProblemFlaw {
     }
 }
 
-// What a call on two graphs and a list is lent.
+// What a call on two graphs and a list is lent. Which search a call is of stands beside it: clique branching and the check of a mapping are of none.
 #[derive(Clone, Copy)]
 pub struct Problem<'a> {
     pub old: Graph<'a>,

@@ -21,7 +21,6 @@ returns-then-mapping-entries c =
     ap (not_read_out c.args.mapping.now) c.refused.ensures
     ∙ read_short c.args.connected (lent c.args.problem) c.args.checkpoint c.args.mapping.now _ c.entries_held-entries.ensures c.requires (incumbent_long (goal.at.returns-then-mapping-entries c).Start) c.if-mapping-entries.true
 
-
 pub returns : goal.returns
 returns c =
     ap (λ (r : Reply). read_out r c.args.checkpoint.steps c.put_entries-size.result c.unwrap_or-ceiling.result c.put_entries-size.new.out) c.accepted.ensures
