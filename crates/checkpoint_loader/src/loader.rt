@@ -9,7 +9,7 @@ use checkpoint::Checkpoint;
 use checkpoint_saver::HEADER;
 use graph::MAX_ORDER;
 
-// The `k` entries from the place `from` on, without their marks.
+// The `k` entries from the place `from` on, without their marks: by place, as `entries` says them.
 fn read_entries(bytes: &[u8], from: usize, k: usize) -> [u8; MAX_ORDER]
     requires { (k ≤ 64) × (from + 2 * k ≤ length bytes.now) }
     ensures { result ≡ padded (entries bytes.now from k) }

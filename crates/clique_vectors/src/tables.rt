@@ -4,6 +4,7 @@ use graph::{Graph, Label};
 use problem::Problem;
 use std::io;
 
+// Three programs of vectors have these: shared, they would be a crate of public functions that no document asks for.
 #[derive(Drop)]
 pub struct Tables {
     pub order: usize,

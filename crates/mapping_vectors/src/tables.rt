@@ -36,6 +36,7 @@ pub fn sound(bytes: &[u8]) -> Source<'_> {
     }
 }
 
+// Three programs of vectors have these: shared, they would be a crate of public functions that no document asks for.
 #[derive(Drop)]
 pub struct Tables {
     order: usize,

@@ -24,6 +24,7 @@ const OPEN_SETS: usize = MAX_ORDER * MAX_ORDER;
 
 const NEXT_OPEN_SETS: usize = OPEN_SETS + 1;
 
+// The edges are a problem's slices, here and below: as an array each would need a conversion that cannot fail, and its proof.
 // The masks of the new vertex w: each other vertex v is added to the mask of the label of the edge of w and v, null edges too.
 pub fn mask_row(order: usize, edges: &[u8], vertex: NewVertex, masks: &mut [u64])
     requires edges_len { (length edges.now ≡ 4096) × (length masks.old ≡ 16384) × (order ≤ 64) × (vertex.0 < order) }
