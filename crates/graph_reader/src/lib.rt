@@ -73,7 +73,7 @@ impl Refusal for ReadError {
 }
 
 // Reads graph bytes of the edition `from` into the two tables, for a graph that is to fit the edition `to`: the graph's order.
-// The tables stay slices inside too: refusal 10 tells of other lengths, and the library turns no lent slice into an array.
+// The tables are slices of any length: refusal 10 tells of those that do not fit.
 #[tactic(auto, unfolding(crate::specs::Reading::reading_edition))]
 pub fn read_edition(
     from: Edition,

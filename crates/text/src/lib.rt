@@ -33,7 +33,7 @@ impl<'a> Writer<'a> {
         Writer { out, at: 0 }
     }
 
-    // How many bytes have been put.
+    // The place that the next text is put at: from the front on, how many bytes have been put.
     pub fn written(&self) -> usize
         ensures { result ≡ self.now.at }
     {
