@@ -46,7 +46,7 @@ pub fn reaches(asked: bool, minimum: u8, answer: Checked) -> bool
 
 impl Checkpoint {
     // Whether what is held, if anything, hangs together, where the search asks for it.
-    pub fn held_admitted(self, connected: bool, edges: &[u8], rows: usize) -> bool
+    pub(crate) fn held_admitted(self, connected: bool, edges: &[u8], rows: usize) -> bool
         requires { (rows ≤ 64) × (length self.incumbent ≡ 64) }
         ensures { result ≡ (not self.holds || admits_by connected edges.now (take rows self.incumbent)) }
     {
@@ -55,7 +55,7 @@ impl Checkpoint {
     }
 
     // Steps are 0 exactly when it is unfinished at depth 0, and then nothing is held; finished has depth 0.
-    pub fn steps_fit(self) -> bool
+    pub(crate) fn steps_fit(self) -> bool
         ensures { result ≡ steps_fit self }
     {
         let depth = self.depth;
@@ -70,7 +70,7 @@ impl Checkpoint {
     }
 
     // Unused bytes are 0.
-    pub fn rest_fits(self, order: usize) -> bool
+    pub(crate) fn rest_fits(self, order: usize) -> bool
         requires { (length self.path ≡ 64) × (length self.incumbent ≡ 64) }
         ensures { result ≡ all_below 64 (rest_fits order self) }
     {
@@ -91,7 +91,7 @@ impl Checkpoint {
     }
 
     // The tests in their order, with what the check says of the filled path and of the incumbent.
-    pub fn in_shape(self, order: usize, path: Checked, held: Checked) -> bool
+    pub(crate) fn in_shape(self, order: usize, path: Checked, held: Checked) -> bool
         requires { (length self.path ≡ 64) × (length self.incumbent ≡ 64) }
         ensures { result ≡ shape_tests order (reaches_to 0 (mapping_outcome path))
             (not self.holds || reaches_to self.minimum (mapping_outcome held)) self }

@@ -110,6 +110,21 @@ module _ (P : Problem) (minimum : ℕ) (r : Result (Option.Option (List ℕ)) Cl
       go (refused n) held e = ap (λ (x : Answer). no_mapping mapping (reply_of x)) e
       go (refused_at n at) held e = ap (λ (x : Answer). no_mapping mapping (reply_of x)) e
 
+  refused_error : (e : CliqueError) → is_refused (clique_refusal e) ≡ true
+  refused_error (Flawed f) = refl
+  refused_error ManyVertices = refl
+
+  -- an answer that holds nothing is not 1
+  off_held : (a : Result (Option.Option (List ℕ)) CliqueError) → ((l : List ℕ) → a ≡ Ok (Some l) → ⊥) → (called_of a).answer ≡ accepted 1 → ⊥
+  off_held (Ok (Some l)) off told = off l refl
+  off_held (Ok None) off told = let z : ◌≡◌ {A = ℕ} 0 1 = cc in omega arith
+  off_held (Err e) off told = true≢false (sym (refused_error e) ∙ ap is_refused told)
+
+  -- Nothing held, or a refusal, is handed on.
+  pub branch_not_held : ((l : List ℕ) → r ≡ Ok (Some l) → ⊥) → (t : Reply) → t ≡ reply_of (called_of r).answer
+      → (mapping : List ℕ) → no_mapping mapping t ≡ branch_reply P minimum mapping
+  branch_not_held off = handed_on (called_of r).answer refl (off_held r off)
+
   -- Nothing held is told as 0.
   pub branch_nothing : r ≡ Ok None → (t : Reply) → t ≡ reply_of (accepted 0) → (mapping : List ℕ) → no_mapping mapping t ≡ branch_reply P minimum mapping
   branch_nothing arm =
@@ -122,7 +137,3 @@ module _ (P : Problem) (minimum : ℕ) (r : Result (Option.Option (List ℕ)) Cl
   branch_refused e arm =
       handed_on (clique_refusal e) (sym (ap (λ (x : Result (Option.Option (List ℕ)) CliqueError). (called_of x).answer) arm))
       (λ told. true≢false (sym (refused_error e) ∙ ap is_refused told))
-    where
-      refused_error : (e : CliqueError) → is_refused (clique_refusal e) ≡ true
-      refused_error (Flawed f) = refl
-      refused_error ManyVertices = refl
