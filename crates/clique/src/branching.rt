@@ -31,19 +31,20 @@ pub fn keep_larger(order: usize, path: [u8; MAX_OLD], pairs: usize, held: Incumb
     }
 }
 
+// What is searched is lent to each of the nested calls: by value, copies of it would be most of their stack.
 impl<'a> Allowed<'a> {
     // The row at `depth`, or the path's end.
     #[cycle(branch_choices_branch_row)]
     pub fn branch_row(
-        self,
+        &self,
         path: [u8; MAX_OLD],
         depth: usize,
         pairs: usize,
         held: Incumbent,
     ) -> Incumbent
-        requires { (depth ≤ self.problem.old.order) × Decided path depth pairs }
-        ensures { Becomes held (λ minimum. branch_row (lent_rules self.entry.problem self.entry.sets.now) minimum
-            (2 * (self.entry.problem.old.order - depth)) (take depth path)) result }
+        requires { (depth ≤ self.now.problem.old.order) × Decided path depth pairs }
+        ensures { Becomes held (λ minimum. branch_row (lent_rules self.entry.now.problem self.entry.now.sets.now) minimum
+            (2 * (self.entry.now.problem.old.order - depth)) (take depth path)) result }
     {
         if depth == self.problem.old.order {
             return keep_larger(depth, path, pairs, held);
@@ -55,16 +56,16 @@ impl<'a> Allowed<'a> {
     // The choices of the row at `depth`: each of these candidates, rising, then none.
     #[cycle(branch_choices_branch_row)]
     pub fn branch_choices(
-        self,
+        &self,
         path: [u8; MAX_OLD],
         depth: usize,
         pairs: usize,
         candidates: u64,
         held: Incumbent,
     ) -> Incumbent
-        requires { (depth < self.problem.old.order) × Decided path depth pairs }
-        ensures { Becomes held (λ minimum. branch_choices (lent_rules self.entry.problem self.entry.sets.now) minimum
-            (2 * (self.entry.problem.old.order - (depth + 1)) + 1) (take depth path) (choices_of candidates)) result }
+        requires { (depth < self.now.problem.old.order) × Decided path depth pairs }
+        ensures { Becomes held (λ minimum. branch_choices (lent_rules self.entry.now.problem self.entry.now.sets.now) minimum
+            (2 * (self.entry.now.problem.old.order - (depth + 1)) + 1) (take depth path) (choices_of candidates)) result }
     {
         let mut next = path;
         match bitset::least_member(candidates) {
@@ -82,8 +83,8 @@ impl<'a> Allowed<'a> {
     }
 
     // The whole search.
-    pub fn branch(self, minimum: u8) -> Incumbent
-        ensures { result ≡ incumbent_as minimum (branch_row (lent_rules self.entry.problem self.entry.sets.now) minimum (2 * self.entry.problem.old.order) [] none) }
+    pub fn branch(&self, minimum: u8) -> Incumbent
+        ensures { result ≡ incumbent_as minimum (branch_row (lent_rules self.entry.now.problem self.entry.now.sets.now) minimum (2 * self.entry.now.problem.old.order) [] none) }
     {
         let held = Incumbent {
             cutoff: minimum as usize,

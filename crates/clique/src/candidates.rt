@@ -36,9 +36,9 @@ pub struct Allowed<'a> {
 
 impl<'a> Allowed<'a> {
     // Whether an earlier row with this entry is left out, or its edge to the row is that of its vertex to this one.
-    fn edge_fits(self, earlier: OldVertex, entry: u8, row: OldVertex, vertex: NewVertex) -> bool
+    fn edge_fits(&self, earlier: OldVertex, entry: u8, row: OldVertex, vertex: NewVertex) -> bool
         requires { (earlier.0 < 64) × (row.0 < 64) × (vertex.0 < 64) × ((entry ≡ 255 → ⊥) → entry < 64) }
-        ensures { result ≡ (eqb entry 255 || compare_edges (lent self.entry.problem) earlier.0 row.0 entry vertex.0) }
+        ensures { result ≡ (eqb entry 255 || compare_edges (lent self.entry.now.problem) earlier.0 row.0 entry vertex.0) }
     {
         if entry == UNMAPPED {
             return true;
@@ -53,9 +53,9 @@ impl<'a> Allowed<'a> {
     }
 
     // The same of every row before it.
-    fn edges_fit(self, path: [u8; MAX_OLD], row: OldVertex, vertex: NewVertex) -> bool
+    fn edges_fit(&self, path: [u8; MAX_OLD], row: OldVertex, vertex: NewVertex) -> bool
         requires { (row.0 < 8) × (vertex.0 < 64) × EntriesBelow path row.0 }
-        ensures { result ≡ all_below row.0 (edge_fits self.entry.problem path row.0 vertex.0) }
+        ensures { result ≡ all_below row.0 (edge_fits self.entry.now.problem path row.0 vertex.0) }
     {
         for i in 0..row.0 {
             if !self.edge_fits(OldVertex(i), path[i], row, vertex) {
@@ -66,9 +66,9 @@ impl<'a> Allowed<'a> {
     }
 
     // The candidates of the row: of the vertices that it may lie on, those that are free and whose edges fit.
-    pub fn candidates(self, path: [u8; MAX_OLD], row: OldVertex) -> u64
+    pub fn candidates(&self, path: [u8; MAX_OLD], row: OldVertex) -> u64
         requires { (row.0 < 8) × EntriesBelow path row.0 }
-        ensures { result ≡ set_of 64 (lent_candidate self.entry.problem self.entry.sets.now path row.0) }
+        ensures { result ≡ set_of 64 (lent_candidate self.entry.now.problem self.entry.now.sets.now path row.0) }
     {
         let mut rest = bitset::difference(self.sets[row.0], taken(path, row.0));
         let mut fitting = 0;

@@ -81,12 +81,22 @@ pub fn check_substitutes(list: &[u8]) -> Result<(), SubstitutesFlaw>
 pub fn agreeing(old: &[Label], new: &[Label], list: &[u8]) -> [u64; MAX_ORDER]
     ensures { Agreeing old.now new.now list.now result }
 {
-    let new_places = LabelPlaces::of(new);
+    let new_low = sets::places(new, 1);
+    let new_high = sets::places(new, 256);
+    let new_places = LabelPlaces {
+        low: &new_low,
+        high: &new_high,
+    };
     let equal = new_places.equal(old);
     if list.len() < PAIR_BYTES {
         return equal;
     }
-    let old_places = LabelPlaces::of(old);
-    let joined = sets::joined(list, &old_places, &new_places);
+    let old_low = sets::places(old, 1);
+    let old_high = sets::places(old, 256);
+    let old_places = LabelPlaces {
+        low: &old_low,
+        high: &old_high,
+    };
+    let joined = sets::joined(list, old_places, new_places);
     old_places.spread(old, &joined, equal)
 }

@@ -12,7 +12,7 @@ pub const BYTES: usize = 256;
 pub const FIRST_PLACES: usize = MAX_ORDER + 1;
 
 // For each byte, the places whose label has it: as its low byte for the unit 1, as its high byte for 256.
-fn places(labels: &[Label], unit: Label) -> [u64; BYTES]
+pub fn places(labels: &[Label], unit: Label) -> [u64; BYTES]
     requires { 1 ≤ unit }
     ensures { Places labels.now unit result }
 {
@@ -24,26 +24,17 @@ fn places(labels: &[Label], unit: Label) -> [u64; BYTES]
     sets
 }
 
-// The places of some labels, for each value of the low byte and of the high one.
+// The places of some labels, for each value of the low byte and of the high one. The two tables are lent: they are of 2 KiB each, and made once.
 #[derive(Clone, Copy)]
-pub struct LabelPlaces {
-    pub low: [u64; BYTES],
-    pub high: [u64; BYTES],
+pub struct LabelPlaces<'a> {
+    pub low: &'a [u64; BYTES],
+    pub high: &'a [u64; BYTES],
 }
 
-impl LabelPlaces {
-    pub fn of(labels: &[Label]) -> LabelPlaces
-        ensures { Places labels.now 1 result.low × Places labels.now 256 result.high }
-    {
-        LabelPlaces {
-            low: places(labels, 1),
-            high: places(labels, 256),
-        }
-    }
-
+impl<'a> LabelPlaces<'a> {
     // The places that have the label.
-    pub fn having(&self, label: Label) -> u64
-        ensures { result ≡ having self.now.low self.now.high label }
+    pub fn having(self, label: Label) -> u64
+        ensures { result ≡ having self.entry.low.now self.entry.high.now label }
     {
         let low_byte = (label % 256) as usize;
         let high_byte = (label / 256) as usize;
@@ -51,15 +42,15 @@ impl LabelPlaces {
     }
 
     // The first place that has the label, or 64.
-    pub fn first_having(&self, label: Label) -> usize
-        ensures { (result ≡ first_having self.now.low self.now.high label) × (result < 65) }
+    pub fn first_having(self, label: Label) -> usize
+        ensures { (result ≡ first_having self.entry.low.now self.entry.high.now label) × (result < 65) }
     {
         bitset::least_member(self.having(label)).unwrap_or(MAX_ORDER)
     }
 
     // For each place of `old`, the places that have its label.
-    pub fn equal(&self, old: &[Label]) -> [u64; MAX_ORDER]
-        ensures { Equal old.now self.now.low self.now.high result }
+    pub fn equal(self, old: &[Label]) -> [u64; MAX_ORDER]
+        ensures { Equal old.now self.entry.low.now self.entry.high.now result }
     {
         let mut words = [0u64; MAX_ORDER];
         for v in 0..MAX_ORDER {
@@ -72,12 +63,12 @@ impl LabelPlaces {
 
     // To the places equal to each of `old`, those that the pairs of its label put to the first of its label.
     pub fn spread(
-        &self,
+        self,
         old: &[Label],
         joined: &[u64; FIRST_PLACES],
         equal: [u64; MAX_ORDER],
     ) -> [u64; MAX_ORDER]
-        ensures { Spread old.now self.now.low self.now.high joined.now equal result }
+        ensures { Spread old.now self.entry.low.now self.entry.high.now joined.now equal result }
     {
         let mut words = equal;
         for v in 0..MAX_ORDER {
@@ -93,10 +84,10 @@ impl LabelPlaces {
 // Each listed pair puts the new places that have its new label to the first old place that has its old one, which stands for all that have it.
 pub fn joined(
     list: &[u8],
-    old_places: &LabelPlaces,
-    new_places: &LabelPlaces,
+    old_places: LabelPlaces<'_>,
+    new_places: LabelPlaces<'_>,
 ) -> [u64; FIRST_PLACES]
-    ensures { Joined list.now old_places.now.low old_places.now.high new_places.now.low new_places.now.high result }
+    ensures { Joined list.now old_places.entry.low.now old_places.entry.high.now new_places.entry.low.now new_places.entry.high.now result }
 {
     let mut sets = [0u64; FIRST_PLACES];
     let count = list.len() / super::PAIR_BYTES;

@@ -19,10 +19,10 @@ slices c = (
 pub returns-then-list-lt-PAIR_BYTES : goal.returns-then-list-lt-PAIR_BYTES
 returns-then-list-lt-PAIR_BYTES c =
     let known = slices (goal.at.returns-then-list-lt-PAIR_BYTES c).After-equal-equal in
-    equal_agreeing c.of-new_places.ensures.0 c.of-new_places.ensures.1 c.equal-equal.ensures known.0 known.1 (omega arith)
+    equal_agreeing c.places-new_low.ensures c.places-new_high.ensures c.equal-equal.ensures known.0 known.1 (omega arith)
 
 pub returns : goal.returns
 returns c =
     let known = slices (goal.at.returns c).After-equal-equal in
-    spread_agreeing c.of-new_places.ensures.0 c.of-new_places.ensures.1 c.equal-equal.ensures known.0 known.1 c.of-old_places.ensures.0
-    c.of-old_places.ensures.1 c.joined-joined.ensures c.spread.ensures known.2
+    spread_agreeing c.places-new_low.ensures c.places-new_high.ensures c.equal-equal.ensures known.0 known.1 c.places-old_low.ensures
+    c.places-old_high.ensures c.joined-joined.ensures c.spread.ensures known.2

@@ -16,11 +16,11 @@ loop-k-preserved c =
     let a = c.args in (
       search rules,
       filled_more _ _ _ c.loop-k.invariant.1
-          (c.first_having-first.ensures.0 ∙ ap (first_having a.old_places.now.low a.old_places.now.high) c.label_at-old.ensures)
+          (c.first_having-first.ensures.0 ∙ ap (first_having a.old_places.low.now a.old_places.high.now) c.label_at-old.ensures)
           c.first_having-first.ensures.1
           (c.union.ensures
           ∙ ap (union_of (get_or c.loop-k.sets c.first_having-first.result 0))
-          (c.having.ensures ∙ ap (having a.new_places.now.low a.new_places.now.high) c.label_at-new.ensures)),
+          (c.having.ensures ∙ ap (having a.new_places.low.now a.new_places.high.now) c.label_at-new.ensures)),
     )
 
 pub returns : goal.returns

@@ -9,4 +9,4 @@ use Rattle.substitutes.proofs.sets.joined.Given as goal
 
 abbrev pub invariant-loop-k : goal.invariant-loop-k
 invariant-loop-k l =
-    (l.k ≤ l.count) × FilledTo 65 (λ j. first_having l.old_places.low l.old_places.high (old_label l.list j)) (λ j i. member (having l.new_places.low l.new_places.high (new_label l.list j)) i) l.k l.sets
+    (l.k ≤ l.count) × FilledTo 65 (λ j. first_having l.old_places.low.now l.old_places.high.now (old_label l.list j)) (λ j i. member (having l.new_places.low.now l.new_places.high.now (new_label l.list j)) i) l.k l.sets

@@ -23,7 +23,7 @@ place s e = (least_below_member 64 (member s) (sym e)).below
 pub branch_choices-branch_row-requires : goal.branch_choices-branch_row-requires
 branch_choices-branch_row-requires t c =
     let p = c.requires in
-    let next = decided_left_out c.args.path c.args.depth c.args.pairs (omega arith) p.1 (omega (arith, c.args.self.small.old_max, p.0)) in
+    let next = decided_left_out c.args.path c.args.depth c.args.pairs (omega arith) p.1 (omega (arith, c.args.self.now.small.old_max, p.0)) in
     (omega (arith, c.decreases), (omega (arith, p.0), next))
 
 pub branch_choices-overflow_cast-next : goal.branch_choices-overflow_cast-next
@@ -34,15 +34,15 @@ branch_choices-overflow_add-pairs t c =
     let p = c.requires in
     omega (
       arith,
-      c.args.self.small.old_max,
+      c.args.self.now.small.old_max,
       p.0,
-      decided_pairs c.args.path c.args.depth c.args.pairs (omega arith) p.1 (omega (arith, c.args.self.small.old_max, p.0)),
+      decided_pairs c.args.path c.args.depth c.args.pairs (omega arith) p.1 (omega (arith, c.args.self.now.small.old_max, p.0)),
     )
 
 pub branch_choices-branch_row-better-requires : goal.branch_choices-branch_row-better-requires
 branch_choices-branch_row-better-requires t c =
     let p = c.requires in
-    let next = decided_mapped c.args.path c.args.depth c.args.pairs (omega arith) p.1 (omega (arith, c.args.self.small.old_max, p.0)) c.in-Some.vertex
+    let next = decided_mapped c.args.path c.args.depth c.args.pairs (omega arith) p.1 (omega (arith, c.args.self.now.small.old_max, p.0)) c.in-Some.vertex
     (place c.args.candidates c.in-Some.ensures) in
     (omega (arith, c.decreases), (omega (arith, p.0), next))
 
@@ -59,22 +59,22 @@ branch_choices-branch_choices-requires t c = (
 
 pub branch_choices-returns-in-None : goal.branch_choices-returns-in-None
 branch_choices-returns-in-None t c minimum incumbent e =
-    let R = lent_rules c.args.self.problem c.args.self.sets.now in
+    let R = lent_rules c.args.self.now.problem c.args.self.now.sets.now in
     c.branch_row.ensures minimum incumbent e
     ∙ ap (incumbent_as minimum)
-    (no_candidate R minimum c.args.path c.args.depth incumbent (omega (arith, c.args.self.small.old_max, c.requires.0)) _ c.args.candidates (sym c.in-None.ensures))
+    (no_candidate R minimum c.args.path c.args.depth incumbent (omega (arith, c.args.self.now.small.old_max, c.requires.0)) _ c.args.candidates (sym c.in-None.ensures))
 
 pub branch_choices-returns-in-Some : goal.branch_choices-returns-in-Some
 branch_choices-returns-in-Some t c minimum incumbent e =
-    let R = lent_rules c.args.self.problem c.args.self.sets.now in
+    let R = lent_rules c.args.self.now.problem c.args.self.now.sets.now in
     c.branch_choices.ensures minimum _ (c.branch_row-better.ensures minimum incumbent e)
     ∙ ap (incumbent_as minimum)
-    (least_candidate R minimum c.args.path c.args.depth incumbent (omega (arith, c.args.self.small.old_max, c.requires.0)) _ c.args.candidates
+    (least_candidate R minimum c.args.path c.args.depth incumbent (omega (arith, c.args.self.now.small.old_max, c.requires.0)) _ c.args.candidates
     c.in-Some.vertex (sym c.in-Some.ensures) c.without_least-rest.ensures)
 
 pub branch_row-returns-then-depth-self : goal.branch_row-returns-then-depth-self
 branch_row-returns-then-depth-self t c minimum incumbent e =
-    let R = lent_rules c.args.self.problem c.args.self.sets.now in
+    let R = lent_rules c.args.self.now.problem c.args.self.now.sets.now in
     c.keep_larger.ensures minimum incumbent e
     ∙ ap (incumbent_as minimum) (row_decided R minimum c.args.path c.args.depth incumbent c.if-depth-self.true)
 
@@ -87,11 +87,11 @@ branch_row-branch_choices-requires t c =
 
 pub branch_row-returns : goal.branch_row-returns
 branch_row-returns t c minimum incumbent e =
-    let R = lent_rules c.args.self.problem c.args.self.sets.now in
+    let R = lent_rules c.args.self.now.problem c.args.self.now.sets.now in
     let p = c.requires in
     c.branch_choices.ensures minimum incumbent e
     ∙ ap (incumbent_as minimum)
-    (row_open R minimum c.args.path c.args.depth incumbent (omega (arith, c.args.self.small.old_max, p.0, c.if-depth-self.false))
-    (omega (arith, p.0, c.if-depth-self.false)) c.args.self.small.new_max
-    (c.candidates-candidates.ensures ∙ lent_candidates c.args.self.problem c.args.self.sets.now c.args.path c.args.depth c.args.self.small
-    (omega (arith, p.0, c.if-depth-self.false)) (omega (arith, c.args.self.small.old_max, p.0))))
+    (row_open R minimum c.args.path c.args.depth incumbent (omega (arith, c.args.self.now.small.old_max, p.0, c.if-depth-self.false))
+    (omega (arith, p.0, c.if-depth-self.false)) c.args.self.now.small.new_max
+    (c.candidates-candidates.ensures ∙ lent_candidates c.args.self.now.problem c.args.self.now.sets.now c.args.path c.args.depth c.args.self.now.small
+    (omega (arith, p.0, c.if-depth-self.false)) (omega (arith, c.args.self.now.small.old_max, p.0))))

@@ -6,7 +6,7 @@ use Rattle.bitset.specs.Count.{size}
 use Rattle.clique.proofs.candidates.Allowed.+branch_choices_branch_row.Given as goal
 
 abbrev pub decreases-branch_choices : goal.decreases-branch_choices
-decreases-branch_choices l = (l.self.problem.old.order - (l.depth + 1)) * 66 + size l.candidates + 1
+decreases-branch_choices l = (l.self.now.problem.old.order - (l.depth + 1)) * 66 + size l.candidates + 1
 
 abbrev pub decreases-branch_row : goal.decreases-branch_row
-decreases-branch_row l = (l.self.problem.old.order - l.depth) * 66
+decreases-branch_row l = (l.self.now.problem.old.order - l.depth) * 66

@@ -18,4 +18,4 @@ pub returns : goal.returns
 returns c =
     let a = c.args in
     c.branch_row.ensures a.minimum none refl
-    ∙ ap (λ (n : ℕ). incumbent_as a.minimum (branch_row (lent_rules a.self.problem a.self.sets.now) a.minimum (2 * n) [] none)) (sub-zero _)
+    ∙ ap (λ (n : ℕ). incumbent_as a.minimum (branch_row (lent_rules a.self.now.problem a.self.now.sets.now) a.minimum (2 * n) [] none)) (sub-zero _)

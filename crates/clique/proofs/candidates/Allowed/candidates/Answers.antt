@@ -35,4 +35,4 @@ pub returns : goal.returns
 returns c =
     let a = c.args in
     gathered_all _ _ c.loop-v.invariant (sym c.least_member.ensures ∙ c.in_default.is)
-    ∙ free_fitting a.self.problem a.self.sets.now a.path a.row.0 c.taken.ensures c.difference-rest.ensures
+    ∙ free_fitting a.self.now.problem a.self.now.sets.now a.path a.row.0 c.taken.ensures c.difference-rest.ensures

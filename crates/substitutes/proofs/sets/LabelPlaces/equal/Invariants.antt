@@ -10,4 +10,4 @@ use Rattle.substitutes.proofs.sets.LabelPlaces.equal.Given as goal
 
 abbrev pub invariant-loop-v : goal.invariant-loop-v
 invariant-loop-v l =
-    (l.v ≤ 64) × SettledTo (λ u. cond (ltb u (length l.old)) (having l.self.low l.self.high (get_or l.old u 0)) 0) (replicate 64 0) l.v l.words
+    (l.v ≤ 64) × SettledTo (λ u. cond (ltb u (length l.old)) (having l.self.low.now l.self.high.now (get_or l.old u 0)) 0) (replicate 64 0) l.v l.words

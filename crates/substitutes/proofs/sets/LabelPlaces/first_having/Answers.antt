@@ -10,4 +10,4 @@ pub returns : goal.returns
 returns c =
     let a = c.args in
     let is = c.unwrap_or.ensures ∙ ap place_of (c.least_member.ensures ∙ ap least_member c.having.ensures) in
-    (is, rw is (first_below a.self.now.low a.self.now.high a.label))
+    (is, rw is (first_below a.self.low.now a.self.high.now a.label))

@@ -11,4 +11,4 @@ use Rattle.substitutes.proofs.sets.LabelPlaces.spread.Given as goal
 
 abbrev pub invariant-loop-v : goal.invariant-loop-v
 invariant-loop-v l =
-    (l.v ≤ 64) × SettledTo (λ u. cond (ltb u (length l.old)) (union_of (get_or l.equal u 0) (get_or l.joined (first_having l.self.low l.self.high (get_or l.old u 0)) 0)) (get_or l.equal u 0)) l.equal l.v l.words
+    (l.v ≤ 64) × SettledTo (λ u. cond (ltb u (length l.old)) (union_of (get_or l.equal u 0) (get_or l.joined (first_having l.self.low.now l.self.high.now (get_or l.old u 0)) 0)) (get_or l.equal u 0)) l.equal l.v l.words
