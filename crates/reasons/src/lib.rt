@@ -4,13 +4,14 @@
 
 mod table;
 
-ghost use Rattle.std.specs.Prelude.{◌≡◌, ◌≤◌, length};
-ghost use Rattle.answers.specs.Output.{fill, overwrite};
+ghost use Rattle.std.specs.Prelude.{◌≡◌};
+ghost use Rattle.answers.specs.Output.{fill};
 ghost use Rattle.reasons.specs.Reasons.{reason_text};
 ghost use Rattle.reasons.specs.Rows.{RowsTell};
 ghost use Rattle.reasons.specs.Answers.{reason_refusal, writing_of};
 
 use answers::Refusal;
+use text::Writer;
 
 // Each number below this one has a row.
 const COUNT: usize = 29;
@@ -48,16 +49,6 @@ fn text(number: u32) -> &'static str
     all_rows().get(number as usize).copied().unwrap_or("")
 }
 
-// The text to the front of `out`, byte by byte: by `copy_from_slice` the compiled library would need a C function more, `memmove`.
-fn put_front(text: &[u8], out: &mut [u8])
-    requires { length text.now ≤ length out.old }
-    ensures { out.new ≡ overwrite text.now out.old }
-{
-    for (at, byte) in text.iter().enumerate() {
-        out[at] = *byte;
-    }
-}
-
 // The text of a number, at the front of `out`: the empty one if no refusal has the number.
 pub fn reason(number: u32, out: &mut [u8]) -> Result<usize, ReasonError>
     ensures { writing_of result out.new ≡ fill (reason_text number) out.old }
@@ -66,6 +57,7 @@ pub fn reason(number: u32, out: &mut [u8]) -> Result<usize, ReasonError>
     if out.len() < text.len() {
         return Err(ReasonError::TooShort);
     }
-    put_front(text, out);
-    Ok(text.len())
+    let mut writer = Writer::new(out);
+    writer.put(text);
+    Ok(writer.written())
 }

@@ -120,6 +120,10 @@ module _ (P : Problem) (minimum : ℕ) (r : Result (Option.Option (List ℕ)) Cl
   off_held (Ok None) off told = let z : ◌≡◌ {A = ℕ} 0 1 = cc in omega arith
   off_held (Err e) off told = true≢false (sym (refused_error e) ∙ ap is_refused told)
 
+  -- what is replied to an answer
+  abbrev replied : Result (Option.Option (List ℕ)) CliqueError → Reply
+  replied a = reply_of (called_of a).answer
+
   -- Nothing held, or a refusal, is handed on.
   pub branch_not_held : ((l : List ℕ) → r ≡ Ok (Some l) → ⊥) → (t : Reply) → t ≡ reply_of (called_of r).answer
       → (mapping : List ℕ) → no_mapping mapping t ≡ branch_reply P minimum mapping
@@ -127,13 +131,9 @@ module _ (P : Problem) (minimum : ℕ) (r : Result (Option.Option (List ℕ)) Cl
 
   -- Nothing held is told as 0.
   pub branch_nothing : r ≡ Ok None → (t : Reply) → t ≡ reply_of (accepted 0) → (mapping : List ℕ) → no_mapping mapping t ≡ branch_reply P minimum mapping
-  branch_nothing arm =
-      handed_on (accepted 0) (sym (ap (λ (x : Result (Option.Option (List ℕ)) CliqueError). (called_of x).answer) arm))
-      (λ e. let z : ◌≡◌ {A = ℕ} 0 1 = cc in omega arith)
+  branch_nothing arm t told = branch_not_held (λ l e. cc) t (told ∙ ap replied (sym arm))
 
   -- A refusal is handed on.
   pub branch_refused : (e : CliqueError) → r ≡ Err e → (t : Reply) → t ≡ reply_of (clique_refusal e)
       → (mapping : List ℕ) → no_mapping mapping t ≡ branch_reply P minimum mapping
-  branch_refused e arm =
-      handed_on (clique_refusal e) (sym (ap (λ (x : Result (Option.Option (List ℕ)) CliqueError). (called_of x).answer) arm))
-      (λ told. true≢false (sym (refused_error e) ∙ ap is_refused told))
+  branch_refused e arm t told = branch_not_held (λ l q. cc) t (told ∙ ap replied (sym arm))

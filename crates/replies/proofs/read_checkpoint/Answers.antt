@@ -1,12 +1,9 @@
 -- `replies::read_checkpoint` meets its contract: what is held fits or is refused, and the ceiling is that of a call that makes no visit
 -- (`CallArms`). Assumes nothing.
-use mathlib.Core.Path.{◌≡◌, sym, ap, ◌∙◌}
-use Prim.Native.Nat.{◌≤◌}
-use native.Mathlib.Omega.{arith}
+use mathlib.Core.Path.{◌≡◌, ap, ◌∙◌}
 use borrow.Author.Rules.{rules}
 use lib.ListN.{length}
 use Rattle.problem.specs.Lent.{lent}
-use Rattle.checkpoint_saver.proofs.SavedLength.{incumbent_few}
 use Rattle.replies.specs.ReadOut.{read_out, not_read_out}
 use Rattle.replies.specs.declared.Reply.{Reply}
 use Rattle.replies.proofs.CallArms.{read_short, read_numbers, search_value}
