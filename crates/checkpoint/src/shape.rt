@@ -45,17 +45,17 @@ pub fn reaches(asked: bool, minimum: u8, answer: Checked) -> bool
 }
 
 impl Checkpoint {
-    // Whether what is held, if anything, hangs together, where the search asks for it.
-    pub(crate) fn held_admitted(self, connected: bool, edges: &[u8], rows: usize) -> bool
-        requires { (rows ≤ 64) × (length self.incumbent ≡ 64) }
+    // Whether what is held in the first `rows` rows (all 64, where more are asked for) hangs together, if anything is held and the search asks for it.
+    pub fn held_admitted(self, connected: bool, edges: &[u8], rows: usize) -> bool
         ensures { result ≡ (not self.holds || admits_by connected edges.now (take rows self.incumbent)) }
     {
+        let rows = rows.min(MAX_ORDER);
         let incumbent = self.incumbent;
         !self.holds || !connected || connected::is_connected(edges, &incumbent[..rows])
     }
 
     // Steps are 0 exactly when it is unfinished at depth 0, and then nothing is held; finished has depth 0.
-    pub(crate) fn steps_fit(self) -> bool
+    pub fn steps_fit(self) -> bool
         ensures { result ≡ steps_fit self }
     {
         let depth = self.depth;
@@ -70,8 +70,7 @@ impl Checkpoint {
     }
 
     // Unused bytes are 0.
-    pub(crate) fn rest_fits(self, order: usize) -> bool
-        requires { (length self.path ≡ 64) × (length self.incumbent ≡ 64) }
+    pub fn rest_fits(self, order: usize) -> bool
         ensures { result ≡ all_below 64 (rest_fits order self) }
     {
         let depth = self.depth;
@@ -90,9 +89,8 @@ impl Checkpoint {
         true
     }
 
-    // The tests in their order, with what the check says of the filled path and of the incumbent.
-    pub(crate) fn in_shape(self, order: usize, path: Checked, held: Checked) -> bool
-        requires { (length self.path ≡ 64) × (length self.incumbent ≡ 64) }
+    // The tests in their order, all but `held_admitted`, with what the check of a mapping says of the filled path and of the incumbent.
+    pub fn in_shape(self, order: usize, path: Checked, held: Checked) -> bool
         ensures { result ≡ shape_tests order (reaches_to 0 (mapping_outcome path))
             (not self.holds || reaches_to self.minimum (mapping_outcome held)) self }
     {

@@ -29,7 +29,7 @@ pub fn decode(edition: Edition, rest: &[u8]) -> Command
             if rest.len() < edition.vertex_width() {
                 Command::Truncated
             } else {
-                Command::Vertex(edition.vertex_label(rest))
+                Command::Vertex(edition.whole_label(rest))
             }
         }
         [2, a, b, label, ..] => Command::Edge(*a, *b, *label),

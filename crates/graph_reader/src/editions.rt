@@ -11,7 +11,7 @@ use graph::Label;
 impl Edition {
     // How a file begins: as its edition does, or with a fault.
     #[tactic(auto, unfolding(crate::specs::Reading::opens))]
-    pub(crate) fn judge_opening(self, bytes: &[u8]) -> Result<(), Fault>
+    pub fn judge_opening(self, bytes: &[u8]) -> Result<(), Fault>
         ensures { opening_answer result ≡ opens self bytes.now }
     {
         match (self, bytes) {
@@ -22,7 +22,7 @@ impl Edition {
     }
 
     // Where the first command begins.
-    pub(crate) fn opening_width(self) -> usize
+    pub fn opening_width(self) -> usize
         ensures { result ≡ opening_width self }
     {
         match self {
@@ -31,7 +31,7 @@ impl Edition {
         }
     }
 
-    pub(crate) fn vertex_code(self) -> u8
+    pub fn vertex_code(self) -> u8
         ensures { result ≡ vertex_code self }
     {
         match self {
@@ -40,7 +40,7 @@ impl Edition {
         }
     }
 
-    pub(crate) fn vertex_width(self) -> usize
+    pub fn vertex_width(self) -> usize
         ensures { result ≡ vertex_width self }
     {
         match self {
@@ -49,8 +49,8 @@ impl Edition {
         }
     }
 
-    // The label of the vertex command at the front of `rest`.
-    pub(crate) fn vertex_label(self, rest: &[u8]) -> Label
+    // The label of the whole vertex command at the front of `rest`.
+    pub(crate) fn whole_label(self, rest: &[u8]) -> Label
         requires { vertex_width self ≤ length rest.now }
         ensures { result ≡ vertex_label self rest.now }
     {
@@ -60,7 +60,18 @@ impl Edition {
         }
     }
 
-    pub(crate) fn greatest_label(self) -> Label
+    // The label of a vertex command, whole or cut off: a byte that is not there counts as 0. `decode`, which has tested the length, asks `whole_label`.
+    pub fn vertex_label(self, rest: &[u8]) -> Label
+        ensures { result ≡ vertex_label self rest.now }
+    {
+        match rest {
+            [] | [_] => 0,
+            [_, low] => *low as Label,
+            _ => self.whole_label(rest),
+        }
+    }
+
+    pub fn greatest_label(self) -> Label
         ensures { result ≡ greatest_label self }
     {
         match self {
