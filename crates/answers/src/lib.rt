@@ -1,5 +1,5 @@
 // What an answer says in 01's terms, and what an answer with output leaves in a lent buffer: definitions in specs/, theorems in proofs/. The code is one trait,
-// which each error of the library implements.
+// which each error of the library implements (a `Fault` within `ReadError`).
 
 #![tactic(auto)]
 

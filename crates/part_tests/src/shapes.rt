@@ -44,6 +44,7 @@ fn unused_bytes(rt: HostRuntime) {
         (64, true, 64, true),
         (65, true, 65, true),
         (2, true, 4, false),
+        (2, true, 65, false),
         (3, true, 3, false),
         (3, false, 4, false),
     ] {
